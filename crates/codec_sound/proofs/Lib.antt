@@ -4,4 +4,5 @@ pub mod Outputs
 pub mod Renewing
 pub mod HeardLists
 pub mod Pairs
+pub mod Digitals
 pub mod Callers

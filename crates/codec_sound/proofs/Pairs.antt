@@ -8,11 +8,13 @@ use Rattle.codec_graph.specs.declared.raw.RawCodec.{RawCodec}
 use Rattle.codec_graph.specs.declared.controls.Control.TheVariants as control
 use Rattle.codec_graph.specs.Widget.{node_at, is_pin, is_output_converter, is_mixer, is_selector, is_stereo, is_digital, has_output_amplifier, has_input_amplifier, most_amplified, amplifier_offset, output_amplifier_word, input_amplifier_word}
 use Rattle.codec_graph.specs.Settings.{Entries, setting_of}
+use Rattle.route_planner.specs.declared.pin_kind.PinKind.{PinKind}
+use Rattle.route_planner.specs.declared.pin_kind.PinKind.TheVariants.{Analog, Digital}
 use Rattle.codec_sound.specs.declared.signals.Signal.{Signal}
 use Rattle.codec_sound.specs.declared.signals.Signal.TheVariants.{Silence, Pair, Altered}
 use Rattle.codec_sound.specs.declared.streams.LinkStream.{LinkStream}
 use Rattle.codec_sound.specs.Amplifiers.{changed, changed_if, is_muted, is_neutral, amplified, after_output, after_input}
-use Rattle.codec_sound.specs.Signals.{IsAmong, is_off, takes, converts_otherwise, channel_at, pair_from, converted, sum_of, mixed, selected_place, selected, passed_on, made, given_at, gives, within, out, is_silent_pin, comes_from, hears, signal_of}
+use Rattle.codec_sound.specs.Signals.{IsAmong, is_off, takes_as, is_foreign, converts_otherwise, channel_at, pair_from, converted, sum_of, mixed, mixed_as, selected_place, selected, passed_on, made, given_at, gives_as, within, out_as, is_silent_pin, comes_from, hears, signal_as}
 
 among-changed : (n : ℕ) (s : Signal) → IsAmong n (changed s)
 among-changed n Silence = tt
@@ -73,55 +75,59 @@ among-pair_from stream channel true even is e = pair_fits stream.channels channe
   below : nat_lt channel stream.channels ≡ true → channel < stream.channels
   below h = grind (arith, nat_tests)
 
-among-converted : (settings : Entries) (stream : LinkStream) (nid : ℕ) (node : RawNode) → stream.channels % 2 ≡ 0 → IsAmong stream.channels (converted settings stream nid node)
-among-converted settings stream nid node even = among-cond stream.channels (takes settings stream nid) _ Silence (by (converts_otherwise settings stream nid node) refl) tt where
-  by : (b : Bool) → converts_otherwise settings stream nid node ≡ b → IsAmong stream.channels (cond b Altered (pair_from stream (channel_at settings nid)))
+among-converted : (kind : PinKind) (settings : Entries) (stream : LinkStream) (nid : ℕ) (node : RawNode) → stream.channels % 2 ≡ 0 → IsAmong stream.channels (converted kind settings stream nid node)
+among-converted kind settings stream nid node even = among-cond stream.channels (takes_as kind settings stream nid) _ Silence (by (converts_otherwise kind settings stream nid node) refl) tt where
+  by : (b : Bool) → converts_otherwise kind settings stream nid node ≡ b → IsAmong stream.channels (cond b Altered (pair_from stream (channel_at settings nid)))
   by true e = tt
   by false e = among-pair_from stream (channel_at settings nid) (nat_lt (channel_at settings nid) stream.channels) even refl ((or_parts _ ((channel_at settings nid % 2 == 1) && nat_lt (channel_at settings nid) stream.channels) e).1)
 
-among-made : (codec : RawCodec) (settings : Entries) (stream : LinkStream) (f : ℕ → Signal) (nid : ℕ) (node : RawNode) → stream.channels % 2 ≡ 0 → ((to : ℕ) → IsAmong stream.channels (f to)) → IsAmong stream.channels (made codec settings stream f nid node)
-among-made codec settings stream f nid node even all =
+among-mixed_as : (n : ℕ) (kind : PinKind) (codec : RawCodec) (settings : Entries) (f : ℕ → Signal) (nid : ℕ) (node : RawNode) → ((to : ℕ) → IsAmong n (f to)) → IsAmong n (mixed_as kind codec settings f nid node)
+among-mixed_as n Analog codec settings f nid node all =
+    among-changed_if n (not (is_stereo node)) (mixed codec settings f nid node 0 node.list) (among-mixed n codec settings f nid node node.list 0 all)
+among-mixed_as n Digital codec settings f nid node all = tt
+
+among-made : (kind : PinKind) (codec : RawCodec) (settings : Entries) (stream : LinkStream) (f : ℕ → Signal) (nid : ℕ) (node : RawNode) → stream.channels % 2 ≡ 0 → ((to : ℕ) → IsAmong stream.channels (f to)) → IsAmong stream.channels (made kind codec settings stream f nid node)
+among-made kind codec settings stream f nid node even all =
     let n = stream.channels in
-    among-cond n (is_output_converter node) _ _ (among-converted settings stream nid node even)
-    (among-cond n (is_mixer node) _ _
-    (among-changed_if n (not (is_stereo node)) (mixed codec settings f nid node 0 node.list) (among-mixed n codec settings f nid node node.list 0 all))
+    among-cond n (is_output_converter node) _ _ (among-converted kind settings stream nid node even)
+    (among-cond n (is_mixer node) _ _ (among-mixed_as n kind codec settings f nid node all)
     (among-cond n (is_selector node) _ Silence
     (among-changed_if n (not (is_stereo node)) (passed_on codec settings f nid node (selected settings nid node)) (among-passed_on n codec settings f nid node (selected settings nid node) all))
     tt))
 
-among-given_at : (codec : RawCodec) (settings : Entries) (stream : LinkStream) (f : ℕ → Signal) (nid : ℕ) (o : Option RawNode) → stream.channels % 2 ≡ 0 → ((to : ℕ) → IsAmong stream.channels (f to)) → IsAmong stream.channels (given_at codec settings stream f nid o)
-among-given_at codec settings stream f nid None even all = tt
-among-given_at codec settings stream f nid (Some node) even all =
+among-given_at : (kind : PinKind) (codec : RawCodec) (settings : Entries) (stream : LinkStream) (f : ℕ → Signal) (nid : ℕ) (o : Option RawNode) → stream.channels % 2 ≡ 0 → ((to : ℕ) → IsAmong stream.channels (f to)) → IsAmong stream.channels (given_at kind codec settings stream f nid o)
+among-given_at kind codec settings stream f nid None even all = tt
+among-given_at kind codec settings stream f nid (Some node) even all =
     among-cond stream.channels (is_off codec settings nid node) Silence _ tt
-    (among-after_output stream.channels codec settings nid node (made codec settings stream f nid node) (among-made codec settings stream f nid node even all))
+    (among-after_output stream.channels codec settings nid node (made kind codec settings stream f nid node) (among-made kind codec settings stream f nid node even all))
 
-among-gives : (codec : RawCodec) (settings : Entries) (stream : LinkStream) (f : ℕ → Signal) (nid : ℕ) → stream.channels % 2 ≡ 0 → ((to : ℕ) → IsAmong stream.channels (f to)) → IsAmong stream.channels (gives codec settings stream f nid)
-unfolding gives
-among-gives codec settings stream f nid even all = among-given_at codec settings stream f nid (node_at codec nid) even all
+among-gives : (kind : PinKind) (codec : RawCodec) (settings : Entries) (stream : LinkStream) (f : ℕ → Signal) (nid : ℕ) → stream.channels % 2 ≡ 0 → ((to : ℕ) → IsAmong stream.channels (f to)) → IsAmong stream.channels (gives_as kind codec settings stream f nid)
+unfolding gives_as
+among-gives kind codec settings stream f nid even all = among-given_at kind codec settings stream f nid (node_at codec nid) even all
 
-among-within : (codec : RawCodec) (settings : Entries) (stream : LinkStream) (connections nid : ℕ) → stream.channels % 2 ≡ 0 → IsAmong stream.channels (within codec settings stream connections nid)
-among-within codec settings stream zero nid even = tt
-among-within codec settings stream (suc connections) nid even =
-    among-gives codec settings stream (within codec settings stream connections) nid even (λ to. among-within codec settings stream connections to even)
+among-within : (kind : PinKind) (codec : RawCodec) (settings : Entries) (stream : LinkStream) (connections nid : ℕ) → stream.channels % 2 ≡ 0 → IsAmong stream.channels (within kind codec settings stream connections nid)
+among-within kind codec settings stream zero nid even = tt
+among-within kind codec settings stream (suc connections) nid even =
+    among-gives kind codec settings stream (within kind codec settings stream connections) nid even (λ to. among-within kind codec settings stream connections to even)
 
-among-out : (codec : RawCodec) (settings : Entries) (stream : LinkStream) (nid : ℕ) → stream.channels % 2 ≡ 0 → IsAmong stream.channels (out codec settings stream nid)
-unfolding out
-among-out codec settings stream nid even = among-within codec settings stream 256 nid even
+among-out : (kind : PinKind) (codec : RawCodec) (settings : Entries) (stream : LinkStream) (nid : ℕ) → stream.channels % 2 ≡ 0 → IsAmong stream.channels (out_as kind codec settings stream nid)
+unfolding out_as
+among-out kind codec settings stream nid even = among-within kind codec settings stream 256 nid even
 
 among-comes_from : (n : ℕ) (f : ℕ → Signal) (o : Option ℕ) → ((to : ℕ) → IsAmong n (f to)) → IsAmong n (comes_from f o)
 among-comes_from n f None all = tt
 among-comes_from n f (Some from) all = all from
 
-among-hears : (n : ℕ) (codec : RawCodec) (settings : Entries) (f : ℕ → Signal) (nid : ℕ) (o : Option RawNode) → ((to : ℕ) → IsAmong n (f to)) → IsAmong n (hears codec settings f nid o)
-among-hears n codec settings f nid None all = tt
-among-hears n codec settings f nid (Some node) all =
+among-hears : (kind : PinKind) (n : ℕ) (codec : RawCodec) (settings : Entries) (f : ℕ → Signal) (nid : ℕ) (o : Option RawNode) → ((to : ℕ) → IsAmong n (f to)) → IsAmong n (hears kind codec settings f nid o)
+among-hears kind n codec settings f nid None all = tt
+among-hears kind n codec settings f nid (Some node) all =
     among-cond n (is_pin node) _ Silence
     (among-cond n (is_silent_pin codec settings nid node) Silence _ tt
-    (among-changed_if n (not (is_stereo node) || is_digital node) (after_output codec settings nid node (comes_from f (selected settings nid node)))
+    (among-changed_if n (not (is_stereo node) || is_foreign kind node) (after_output codec settings nid node (comes_from f (selected settings nid node)))
     (among-after_output n codec settings nid node (comes_from f (selected settings nid node)) (among-comes_from n f (selected settings nid node) all))))
     tt
 
 -- so are those of the pair that a pin hears
-pub among-signal_of : (codec : RawCodec) (settings : Entries) (stream : LinkStream) (pin : ℕ) → stream.channels % 2 ≡ 0 → IsAmong stream.channels (signal_of codec settings stream pin)
-among-signal_of codec settings stream pin even =
-    among-hears stream.channels codec settings (out codec settings stream) pin (node_at codec pin) (λ to. among-out codec settings stream to even)
+pub among-signal_of : (kind : PinKind) (codec : RawCodec) (settings : Entries) (stream : LinkStream) (pin : ℕ) → stream.channels % 2 ≡ 0 → IsAmong stream.channels (signal_as kind codec settings stream pin)
+among-signal_of kind codec settings stream pin even =
+    among-hears kind stream.channels codec settings (out_as kind codec settings stream) pin (node_at codec pin) (λ to. among-out kind codec settings stream to even)

@@ -4,10 +4,11 @@ use Rattle.std.proofs.lemmas.List.Elements.{All-map}
 use Rattle.codec_graph.specs.declared.raw.RawCodec.{RawCodec}
 use Rattle.codec_graph.specs.Settings.{Entries}
 use Rattle.stream_format.specs.declared.format.Format.{Format}
+use Rattle.route_planner.specs.declared.pin_kind.PinKind.{PinKind}
 use Rattle.codec_sound.specs.declared.signals.Signal.{Signal}
 use Rattle.codec_sound.specs.declared.streams.LinkStream.{LinkStream}
-use Rattle.codec_sound.specs.Signals.{stream_of, signal_of}
-use Rattle.codec_sound.specs.Keeping.{signal_by, with_signals, renewed, kept_pins, AreKept}
+use Rattle.codec_sound.specs.Signals.{stream_of, signal_as}
+use Rattle.codec_sound.specs.Keeping.{signal_by_as, with_signals, renewed, kept_pins, AreKept}
 
 -- signals that agree are renewed alike
 pub renewed-agree : (f g : ℕ → Signal) (signals : List (ℕ × Signal)) → ((pin : ℕ) → f pin ≡ g pin) → renewed f signals ≡ renewed g signals
@@ -20,8 +21,8 @@ renewed-with_signals f g [] = refl
 renewed-with_signals f g (pin ∷ pins) = rw (renewed-with_signals f g pins) refl
 
 -- the signal by a format that is there
-pub signal_by-some : (codec : RawCodec) (settings : Entries) (tag : ℕ) (option : Option Format) (format : Format) (stream : LinkStream) → option ≡ Some format → stream ≡ stream_of tag format → (pin : ℕ) → signal_of codec settings stream pin ≡ signal_by codec settings tag option pin
-signal_by-some codec settings tag option format stream is e pin = rw (is, e) refl
+pub signal_by-some : (kind : PinKind) (codec : RawCodec) (settings : Entries) (tag : ℕ) (option : Option Format) (format : Format) (stream : LinkStream) → option ≡ Some format → stream ≡ stream_of tag format → (pin : ℕ) → signal_as kind codec settings stream pin ≡ signal_by_as kind codec settings tag option pin
+signal_by-some kind codec settings tag option format stream is e pin = rw (is, e) refl
 
 -- the kept pins stay the same
 pub pins_of_renewed : (f : ℕ → Signal) (signals : List (ℕ × Signal)) → kept_pins (renewed f signals) ≡ kept_pins signals

@@ -8,11 +8,13 @@ use Rattle.stream_format.specs.Layouts.{Layout, layout_of}
 use Rattle.stream_format.specs.Samples.{container_number}
 use Rattle.world_streams.specs.Output.{Carriage, Sent, Missed}
 use Rattle.hda_world.specs.Worlds.{CarriedFrame, codec_at}
+use Rattle.route_planner.specs.declared.pin_kind.PinKind.{PinKind}
+use Rattle.route_planner.specs.declared.pin_kind.PinKind.TheVariants.{Analog}
 use Rattle.codec_sound.specs.declared.signals.Signal.{Signal}
 use Rattle.codec_sound.specs.declared.signals.Signal.TheVariants as variant
 use Rattle.codec_sound.specs.declared.heard.Heard.{Heard}
 use Rattle.codec_sound.specs.declared.heard.Heard.TheVariants.{Sound, Quiet, Hole, Altered}
-use Rattle.codec_sound.specs.Signals.{signal_of}
+use Rattle.codec_sound.specs.Signals.{signal_as}
 
 -- ---- blocks
 
@@ -54,21 +56,36 @@ heard_in layout signal (Sent bytes) = items_sent layout signal bytes
 
 -- the signal of a codec's pin while the stream with this tag and format word plays: silence where the codec is not
 -- there or the word has no meaning
-abbrev pub signal_with : Option CodecState → ℕ → ℕ → Option Layout → ℕ → Signal
-signal_with None tag word layout pin = variant.Silence
-signal_with (Some codec) tag word None pin = variant.Silence
-signal_with (Some codec) tag word (Some layout) pin =
-    signal_of codec.graph codec.settings (record { tag = tag; word = word; channels = layout.channels }) pin
+abbrev pub signal_with_as : PinKind → Option CodecState → ℕ → ℕ → Option Layout → ℕ → Signal
+signal_with_as kind None tag word layout pin = variant.Silence
+signal_with_as kind (Some codec) tag word None pin = variant.Silence
+signal_with_as kind (Some codec) tag word (Some layout) pin =
+    signal_as kind codec.graph codec.settings (record { tag = tag; word = word; channels = layout.channels }) pin
 
 -- the signal of the pin of the codec with this address in a link frame
-abbrev pub signal_in : ℕ → ℕ → CarriedFrame → Signal
-signal_in address pin frame = signal_with (codec_at address frame.codecs) frame.tag frame.format
+abbrev pub signal_in_as : PinKind → ℕ → ℕ → CarriedFrame → Signal
+signal_in_as kind address pin frame = signal_with_as kind (codec_at address frame.codecs) frame.tag frame.format
     (layout_of frame.format) pin
 
 -- what a link frame adds to its list
-abbrev pub frame_items : ℕ → ℕ → CarriedFrame → List Heard
-frame_items address pin frame = heard_in (layout_of frame.format) (signal_in address pin frame) frame.carriage
+abbrev pub frame_items_as : PinKind → ℕ → ℕ → CarriedFrame → List Heard
+frame_items_as kind address pin frame = heard_in (layout_of frame.format) (signal_in_as kind address pin frame)
+    frame.carriage
 
 -- the list of the pin, of all link frames that carried the stream
+abbrev pub heard_as : PinKind → ℕ → ℕ → List CarriedFrame → List Heard
+heard_as kind address pin frames = flat_map (frame_items_as kind address pin) frames
+
+-- ---- the list of an analog pin
+
+abbrev pub signal_with : Option CodecState → ℕ → ℕ → Option Layout → ℕ → Signal
+signal_with = signal_with_as Analog
+
+abbrev pub signal_in : ℕ → ℕ → CarriedFrame → Signal
+signal_in = signal_in_as Analog
+
+abbrev pub frame_items : ℕ → ℕ → CarriedFrame → List Heard
+frame_items = frame_items_as Analog
+
 abbrev pub heard : ℕ → ℕ → List CarriedFrame → List Heard
-heard address pin frames = flat_map (frame_items address pin) frames
+heard = heard_as Analog

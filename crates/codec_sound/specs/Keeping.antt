@@ -3,9 +3,11 @@ use Rattle.std.specs.Prelude.{◌≡◌, ℕ, ◌+◌, ◌-◌, ◌^◌, List, m
 use Rattle.codec_graph.specs.declared.raw.RawCodec.{RawCodec}
 use Rattle.codec_graph.specs.Settings.{Entries}
 use Rattle.stream_format.specs.declared.format.Format.{Format}
+use Rattle.route_planner.specs.declared.pin_kind.PinKind.{PinKind}
+use Rattle.route_planner.specs.declared.pin_kind.PinKind.TheVariants.{Analog}
 use Rattle.codec_sound.specs.declared.signals.Signal.{Signal}
 use Rattle.codec_sound.specs.declared.signals.Signal.TheVariants.{Silence}
-use Rattle.codec_sound.specs.Signals.{stream_of, signal_of}
+use Rattle.codec_sound.specs.Signals.{stream_of, signal_as}
 
 -- pins, each with its signal, and how often they were renewed
 pub record KeptSignals : Type 0 where
@@ -13,9 +15,12 @@ pub record KeptSignals : Type 0 where
   pub renewals : ℕ
 
 -- the signal of a pin while a stream with this tag and format plays: without a format nothing is heard
+abbrev pub signal_by_as : PinKind → RawCodec → Entries → ℕ → Option Format → ℕ → Signal
+signal_by_as kind codec settings tag None pin = Silence
+signal_by_as kind codec settings tag (Some format) pin = signal_as kind codec settings (stream_of tag format) pin
+
 abbrev pub signal_by : RawCodec → Entries → ℕ → Option Format → ℕ → Signal
-signal_by codec settings tag None pin = Silence
-signal_by codec settings tag (Some format) pin = signal_of codec settings (stream_of tag format) pin
+signal_by = signal_by_as Analog
 
 -- some pins, each with the signal that this gives it
 abbrev pub with_signals : (ℕ → Signal) → List ℕ → List (ℕ × Signal)

@@ -1,6 +1,7 @@
--- The signal that each widget gives and each pin hears while a stream plays: nothing, one pair of the stream's
--- channels, or something that is not followed. Connections: High Definition Audio 1.0a, 7.1.2; widgets: 7.2.3. That two
--- signals together, a mono widget and a digital one make a signal that is not followed is this project's own.
+-- The signal that each widget gives and each pin hears while a stream plays, as analog pins hear it and as digital ones
+-- do: nothing, one pair of the stream's channels, or something that is not followed. Connections: High Definition Audio
+-- 1.0a, 7.1.2; widgets: 7.2.3. That two signals together, a mono widget and one of the other kind make a signal that is
+-- not followed, and that no digital stream passes a mixer, is this project's own.
 use Rattle.std.specs.Prelude.{ℕ, zero, suc, Bool, ◌==◌, ◌&&◌, ◌||◌, not, ◌+◌, ◌*◌, ◌/◌, ◌%◌, ◌<◌, List, [], ◌∷◌, length}
 use Rattle.std.specs.Prelude.{Option, Some, None, nat_lt, slice_get, if◌then◌else◌}
 use Rattle.codec_graph.specs.declared.raw.RawNode.{RawNode}
@@ -11,6 +12,8 @@ use Rattle.codec_graph.specs.Widget.{node_at, is_output_converter, is_mixer, is_
 use Rattle.codec_graph.specs.Widget.{has_power_control}
 use Rattle.codec_graph.specs.Settings.{Entries, setting_of, has_eapd}
 use Rattle.stream_format.specs.declared.format.Format.{Format}
+use Rattle.route_planner.specs.declared.pin_kind.PinKind.{PinKind}
+use Rattle.route_planner.specs.declared.pin_kind.PinKind.TheVariants.{Analog, Digital}
 use Rattle.stream_format.specs.Words.{format_word}
 use Rattle.codec_sound.specs.declared.signals.Signal.{Signal}
 use Rattle.codec_sound.specs.declared.signals.Signal.TheVariants.{Silence, Pair, Altered}
@@ -47,10 +50,24 @@ channel_at settings nid = bits_of (setting_of settings nid control.Stream) 0 4
 abbrev pub takes : Entries → LinkStream → ℕ → Bool
 takes settings stream nid = not (tag_at settings nid == 0) && (tag_at settings nid == stream.tag)
 
--- it is set to another format, is digital or mono, or begins between the two channels of a pair
-abbrev pub converts_otherwise : Entries → LinkStream → ℕ → RawNode → Bool
-converts_otherwise settings stream nid node =
-    not (setting_of settings nid control.Format == stream.word) || is_digital node || not (is_stereo node)
+-- digital output is enabled: bit 0 of a digital converter's control, DigEn (7.3.3.9)
+abbrev pub is_enabled : Entries → ℕ → Bool
+is_enabled settings nid = has_bit (setting_of settings nid control.Digital) 0
+
+-- so does one for digital pins, only while its digital output is enabled
+abbrev pub takes_as : PinKind → Entries → LinkStream → ℕ → Bool
+takes_as Analog settings stream nid = takes settings stream nid
+takes_as Digital settings stream nid = takes settings stream nid && is_enabled settings nid
+
+-- a widget of the other kind: a digital one for analog pins, and an analog one for digital pins
+abbrev pub is_foreign : PinKind → RawNode → Bool
+is_foreign Analog node = is_digital node
+is_foreign Digital node = not (is_digital node)
+
+-- it is set to another format, is of the other kind or mono, or begins between the two channels of a pair
+abbrev pub converts_otherwise : PinKind → Entries → LinkStream → ℕ → RawNode → Bool
+converts_otherwise kind settings stream nid node =
+    not (setting_of settings nid control.Format == stream.word) || is_foreign kind node || not (is_stereo node)
     || (channel_at settings nid % 2 == 1 && nat_lt (channel_at settings nid) stream.channels)
 
 -- the pair that begins at the channel, if the stream has it
@@ -58,10 +75,11 @@ abbrev pub pair_from : LinkStream → ℕ → Signal
 pair_from stream channel = if nat_lt channel stream.channels then Pair (channel / 2) else Silence
 
 -- what an output converter makes of the stream
-abbrev pub converted : Entries → LinkStream → ℕ → RawNode → Signal
-converted settings stream nid node =
-    if takes settings stream nid
-    then (if converts_otherwise settings stream nid node then Altered else pair_from stream (channel_at settings nid))
+abbrev pub converted : PinKind → Entries → LinkStream → ℕ → RawNode → Signal
+converted kind settings stream nid node =
+    if takes_as kind settings stream nid
+    then (if converts_otherwise kind settings stream nid node then Altered else pair_from stream
+    (channel_at settings nid))
     else Silence
 
 -- two signals together: silence adds nothing, and two others are not followed
@@ -92,42 +110,55 @@ passed_on codec settings out nid node None = Silence
 passed_on codec settings out nid node (Some from) = after_input codec settings nid node
     (selected_place settings nid node) (out from)
 
+-- what a mixer makes: a mono one changes what it adds, and no digital stream passes one
+abbrev pub mixed_as : PinKind → RawCodec → Entries → (ℕ → Signal) → ℕ → RawNode → Signal
+mixed_as Analog codec settings out nid node = changed_if (not (is_stereo node))
+    (mixed codec settings out nid node 0 node.list)
+mixed_as Digital codec settings out nid node = Silence
+
 -- what a widget makes of the stream and of what the nodes give that it lists: converters, mixers and selectors make a
 -- signal, and mono mixers and selectors change it
-abbrev pub made : RawCodec → Entries → LinkStream → (ℕ → Signal) → ℕ → RawNode → Signal
-made codec settings stream out nid node =
-    if is_output_converter node then converted settings stream nid node
-    else (if is_mixer node then changed_if (not (is_stereo node)) (mixed codec settings out nid node 0 node.list)
+abbrev pub made : PinKind → RawCodec → Entries → LinkStream → (ℕ → Signal) → ℕ → RawNode → Signal
+made kind codec settings stream out nid node =
+    if is_output_converter node then converted kind settings stream nid node
+    else (if is_mixer node then mixed_as kind codec settings out nid node
     else (if is_selector node then changed_if (not (is_stereo node))
     (passed_on codec settings out nid node (selected settings nid node))
     else Silence))
 
 -- what it gives: nothing while it is off, else what it makes, through its output amplifier
-abbrev pub given : RawCodec → Entries → LinkStream → (ℕ → Signal) → ℕ → RawNode → Signal
-given codec settings stream out nid node =
+abbrev pub given : PinKind → RawCodec → Entries → LinkStream → (ℕ → Signal) → ℕ → RawNode → Signal
+given kind codec settings stream out nid node =
     if is_off codec settings nid node then Silence else after_output codec settings nid node
-    (made codec settings stream out nid node)
+    (made kind codec settings stream out nid node)
 
-abbrev pub given_at : RawCodec → Entries → LinkStream → (ℕ → Signal) → ℕ → Option RawNode → Signal
-given_at codec settings stream out nid None = Silence
-given_at codec settings stream out nid (Some node) = given codec settings stream out nid node
+abbrev pub given_at : PinKind → RawCodec → Entries → LinkStream → (ℕ → Signal) → ℕ → Option RawNode → Signal
+given_at kind codec settings stream out nid None = Silence
+given_at kind codec settings stream out nid (Some node) = given kind codec settings stream out nid node
 
 -- ---- all widgets
 
 -- the step: what each node gives, if the nodes give what `out` says
-unfoldable pub gives : RawCodec → Entries → LinkStream → (ℕ → Signal) → ℕ → Signal
-gives codec settings stream out nid = given_at codec settings stream out nid (node_at codec nid)
+unfoldable pub gives_as : PinKind → RawCodec → Entries → LinkStream → (ℕ → Signal) → ℕ → Signal
+gives_as kind codec settings stream out nid = given_at kind codec settings stream out nid (node_at codec nid)
 
 -- what each node gives of what comes over less than so many connections
-abbrev pub within : RawCodec → Entries → LinkStream → ℕ → ℕ → Signal
-within codec settings stream zero nid = Silence
-within codec settings stream (suc connections) nid = gives codec settings stream
-    (within codec settings stream connections) nid
+abbrev pub within : PinKind → RawCodec → Entries → LinkStream → ℕ → ℕ → Signal
+within kind codec settings stream zero nid = Silence
+within kind codec settings stream (suc connections) nid = gives_as kind codec settings stream
+    (within kind codec settings stream connections) nid
 
 -- what each node gives: no way through the mixers and selectors of a well-formed graph is as long. It is the one that
 -- fits the step at every node, as the laws say.
-unfoldable pub out : RawCodec → Entries → LinkStream → ℕ → Signal
-out codec settings stream nid = within codec settings stream 256 nid
+unfoldable pub out_as : PinKind → RawCodec → Entries → LinkStream → ℕ → Signal
+out_as kind codec settings stream nid = within kind codec settings stream 256 nid
+
+-- for analog pins
+abbrev pub gives : RawCodec → Entries → LinkStream → (ℕ → Signal) → ℕ → Signal
+gives = gives_as Analog
+
+abbrev pub out : RawCodec → Entries → LinkStream → ℕ → Signal
+out = out_as Analog
 
 -- ---- pins
 
@@ -144,22 +175,30 @@ abbrev pub comes_from : (ℕ → Signal) → Option ℕ → Signal
 comes_from out None = Silence
 comes_from out (Some from) = out from
 
--- what a pin hears: what its selected node gives, through its output amplifier; mono and digital pins change it
-abbrev pub pin_hears : RawCodec → Entries → (ℕ → Signal) → ℕ → RawNode → Signal
-pin_hears codec settings out nid node =
+-- what a pin hears: what its selected node gives, through its output amplifier; mono pins and those of the other kind
+-- change it
+abbrev pub pin_hears : PinKind → RawCodec → Entries → (ℕ → Signal) → ℕ → RawNode → Signal
+pin_hears kind codec settings out nid node =
     if is_silent_pin codec settings nid node
     then Silence
-    else changed_if (not (is_stereo node) || is_digital node)
+    else changed_if (not (is_stereo node) || is_foreign kind node)
     (after_output codec settings nid node (comes_from out (selected settings nid node)))
 
 -- what a node hears: a node that is no pin hears nothing
-abbrev pub hears : RawCodec → Entries → (ℕ → Signal) → ℕ → Option RawNode → Signal
-hears codec settings out nid None = Silence
-hears codec settings out nid (Some node) = if is_pin node then pin_hears codec settings out nid node else Silence
+abbrev pub hears : PinKind → RawCodec → Entries → (ℕ → Signal) → ℕ → Option RawNode → Signal
+hears kind codec settings out nid None = Silence
+hears kind codec settings out nid (Some node) =
+    if is_pin node then pin_hears kind codec settings out nid node else Silence
 
-abbrev pub hears_at : RawCodec → Entries → (ℕ → Signal) → ℕ → Signal
-hears_at codec settings out nid = hears codec settings out nid (node_at codec nid)
+abbrev pub hears_at : PinKind → RawCodec → Entries → (ℕ → Signal) → ℕ → Signal
+hears_at kind codec settings out nid = hears kind codec settings out nid (node_at codec nid)
 
--- the signal of a pin
+-- the signal of a pin, of each kind
+abbrev pub signal_as : PinKind → RawCodec → Entries → LinkStream → ℕ → Signal
+signal_as kind codec settings stream pin = hears_at kind codec settings (out_as kind codec settings stream) pin
+
 abbrev pub signal_of : RawCodec → Entries → LinkStream → ℕ → Signal
-signal_of codec settings stream pin = hears_at codec settings (out codec settings stream) pin
+signal_of = signal_as Analog
+
+abbrev pub digital_signal_of : RawCodec → Entries → LinkStream → ℕ → Signal
+digital_signal_of = signal_as Digital

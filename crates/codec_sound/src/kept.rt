@@ -10,6 +10,7 @@ use crate::signals::{Signal, Table};
 use crate::streams::LinkStream;
 use crate::table::outputs;
 use codec_graph::{Graph, RawCodec, Settings};
+use route_planner::PinKind;
 use std::alloc::{AllocError, Global};
 use std::marker::Model;
 use stream_format::Format;
@@ -54,12 +55,34 @@ impl Kept {
         }) }
         ensures pins { IfOk result (λ kept. spec.kept_pins kept.pins ≡ pins.items) }
     {
+        Kept::new_as(alloc, PinKind::Analog, graph, settings, pins, tag, format)
+    }
+
+    /// Keeps the signals of some pins as those of the kind.
+    ///
+    /// # Errors
+    /// Want of memory.
+    pub fn new_as(
+        alloc: Global,
+        kind: PinKind,
+        graph: &Graph,
+        settings: &Settings,
+        pins: Vec<u8>,
+        tag: u8,
+        format: Option<Format>,
+    ) -> Result<Kept, AllocError>
+        ensures value { IfOk result (λ kept. kept ≡ record {
+          pins = spec.with_signals (spec.signal_by_as kind graph.now settings.now tag format) pins.items;
+          renewals = 0;
+        }) }
+        ensures pins { IfOk result (λ kept. spec.kept_pins kept.pins ≡ pins.items) }
+    {
         let mut kept = Kept {
             pins: silent_pins(alloc, pins.as_slice())?,
             places: places_of(pins.as_slice()),
             renewals: 0,
         };
-        kept.work_out(graph, settings, tag, format);
+        kept.work_out(kind, graph, settings, tag, format);
         Ok(kept)
     }
 
@@ -73,17 +96,43 @@ impl Kept {
         } }
         ensures pins { spec.kept_pins self.new.pins ≡ spec.kept_pins self.old.pins }
     {
-        self.work_out(graph, settings, tag, format);
+        self.renew_as(PinKind::Analog, graph, settings, tag, format);
+    }
+
+    /// The same as those of the kind.
+    #[tactic(auto, using(crate::proofs::Renewing::pins_of_renewed))]
+    pub fn renew_as(
+        &mut self,
+        kind: PinKind,
+        graph: &Graph,
+        settings: &Settings,
+        tag: u8,
+        format: Option<Format>,
+    )
+        ensures value { self.new ≡ record {
+          pins = spec.renewed (spec.signal_by_as kind graph.now settings.now tag format) self.old.pins;
+          renewals = spec.counted_on self.old.renewals;
+        } }
+        ensures pins { spec.kept_pins self.new.pins ≡ spec.kept_pins self.old.pins }
+    {
+        self.work_out(kind, graph, settings, tag, format);
         self.renewals = self.renewals.saturating_add(1);
     }
 
     /// Works the signals of the kept pins out anew, without counting it.
-    fn work_out(&mut self, graph: &Graph, settings: &Settings, tag: u8, format: Option<Format>)
+    fn work_out(
+        &mut self,
+        kind: PinKind,
+        graph: &Graph,
+        settings: &Settings,
+        tag: u8,
+        format: Option<Format>,
+    )
         ensures { self.new ≡ record self.old {
-          pins = spec.renewed (spec.signal_by graph.now settings.now tag format) self.old.pins;
+          pins = spec.renewed (spec.signal_by_as kind graph.now settings.now tag format) self.old.pins;
         } }
     {
-        work_out(graph, settings, tag, format, self.pins.as_mut_slice());
+        work_out(kind, graph, settings, tag, format, self.pins.as_mut_slice());
     }
 
     /// The signal of a kept pin, as it was worked out last.
@@ -141,29 +190,36 @@ fn silent_pins(alloc: Global, pins: &[u8]) -> Result<Vec<(u8, Signal)>, AllocErr
 
 /// Gives each pin what it hears now.
 fn work_out(
+    kind: PinKind,
     graph: &Graph,
     settings: &Settings,
     tag: u8,
     format: Option<Format>,
     pins: &mut [(u8, Signal)],
 )
-    ensures { pins.new ≡ spec.renewed (spec.signal_by graph.now settings.now tag format) pins.old }
+    ensures { pins.new ≡ spec.renewed (spec.signal_by_as kind graph.now settings.now tag format) pins.old }
 {
     match format {
         Some(format) => {
-            let table = outputs(graph, settings, LinkStream::new(tag, format));
-            hear_all(graph.raw(), settings, &table, pins);
+            let table = outputs(kind, graph, settings, LinkStream::new(tag, format));
+            hear_all(kind, graph.raw(), settings, &table, pins);
         }
         None => silence_all(pins),
     }
 }
 
 /// Gives each pin what it hears where each node gives what the table says.
-fn hear_all(codec: &RawCodec, settings: &Settings, table: &Table, pins: &mut [(u8, Signal)])
-    ensures { pins.new ≡ spec.renewed (hears_at codec.now settings.now (in_table table.now)) pins.old }
+fn hear_all(
+    kind: PinKind,
+    codec: &RawCodec,
+    settings: &Settings,
+    table: &Table,
+    pins: &mut [(u8, Signal)],
+)
+    ensures { pins.new ≡ spec.renewed (hears_at kind codec.now settings.now (in_table table.now)) pins.old }
 {
     for kept in pins.iter_mut() {
-        kept.1 = hears(codec, settings, table, kept.0);
+        kept.1 = hears(kind, codec, settings, table, kept.0);
     }
 }
 

@@ -1,5 +1,5 @@
-//! What a codec's pins hear while a stream plays: the signal of a pin, signals that are kept, and the items of heard
-//! lists.
+//! What a codec's pins hear while a stream plays, analog ones and digital ones: the signal of a pin, signals that are
+//! kept, and the items of heard lists.
 #![tactic(auto)]
 
 mod amplifiers;
@@ -15,8 +15,12 @@ mod widgets;
 pub use heard::Heard;
 pub use kept::Kept;
 pub use laws::{
-    bytes_are_items, frames_add_their_items, heard_lists_go_on, heard_samples_are_the_formats,
-    kept_signals_are_those_of_words, pairs_are_among_the_channels, signals_alone_fit_the_step,
+    bytes_are_items, digital_signals_need_digital_nodes, frames_add_their_items, heard_lists_go_on,
+    heard_lists_of_each_kind_go_on, heard_samples_are_the_formats, kept_signals_are_those_of_words,
+    kept_signals_of_each_kind_are_those_of_words, pairs_are_among_the_channels,
+    pairs_of_each_kind_are_among_the_channels, signals_alone_fit_the_step,
+    signals_of_each_kind_fit_the_step,
 };
-pub use pins::signal;
+pub use pins::{digital_signal, signal};
+pub use route_planner::digital_order;
 pub use signals::Signal;

@@ -7,7 +7,11 @@ ghost use Rattle.codec_sound.specs.Depths.{in_table};
 use crate::amplifiers::{after_input, after_output, setting};
 use crate::signals::{Signal, Table};
 use crate::streams::LinkStream;
-use codec_graph::{Control, RawCodec, RawNode, Settings, bits_of};
+use codec_graph::{Control, RawCodec, RawNode, Settings, bits_of, has_bit};
+use route_planner::PinKind;
+
+/// The bit of a digital converter's control that enables its output: DigEn (HDA 1.0a, 7.3.3.9).
+const DIGITAL_ENABLE: u32 = 0;
 
 /// Whether the function group or the widget is in another power state than 0, fully on (HDA 1.0a, 7.3.3.10).
 pub(crate) fn is_off(codec: &RawCodec, settings: &Settings, nid: u8, node: &RawNode) -> bool
@@ -31,6 +35,13 @@ fn channel_at(settings: &Settings, nid: u8) -> u8
     bits_of(setting(settings, nid, Control::Stream), 0, 4) as u8
 }
 
+/// Whether a digital converter's output is enabled (HDA 1.0a, 7.3.3.9).
+fn is_enabled(settings: &Settings, nid: u8) -> bool
+    ensures { result ≡ spec.is_enabled settings.now nid }
+{
+    has_bit(setting(settings, nid, Control::Digital), DIGITAL_ENABLE)
+}
+
 /// Whether a converter takes the stream.
 fn takes(settings: &Settings, stream: LinkStream, nid: u8) -> bool
     ensures { result ≡ spec.takes settings.now stream nid }
@@ -39,13 +50,39 @@ fn takes(settings: &Settings, stream: LinkStream, nid: u8) -> bool
     tag != 0 && tag == u32::from(stream.tag)
 }
 
+/// Whether a converter takes the stream for pins of the kind.
+fn takes_as(kind: PinKind, settings: &Settings, stream: LinkStream, nid: u8) -> bool
+    ensures { result ≡ spec.takes_as kind settings.now stream nid }
+{
+    match kind {
+        PinKind::Analog => takes(settings, stream, nid),
+        PinKind::Digital => takes(settings, stream, nid) && is_enabled(settings, nid),
+    }
+}
+
+/// Whether the widget is of the other kind.
+pub(crate) fn is_foreign(kind: PinKind, node: &RawNode) -> bool
+    ensures { result ≡ spec.is_foreign kind node.now }
+{
+    match kind {
+        PinKind::Analog => node.is_digital(),
+        PinKind::Digital => !node.is_digital(),
+    }
+}
+
 /// Whether a converter makes of the stream what is not followed.
-fn converts_otherwise(settings: &Settings, stream: LinkStream, nid: u8, node: &RawNode) -> bool
-    ensures { result ≡ spec.converts_otherwise settings.now stream nid node.now }
+fn converts_otherwise(
+    kind: PinKind,
+    settings: &Settings,
+    stream: LinkStream,
+    nid: u8,
+    node: &RawNode,
+) -> bool
+    ensures { result ≡ spec.converts_otherwise kind settings.now stream nid node.now }
 {
     let channel = channel_at(settings, nid);
     setting(settings, nid, Control::Format) != u32::from(stream.word)
-        || node.is_digital()
+        || is_foreign(kind, node)
         || !node.is_stereo()
         || channel % 2 == 1 && channel < stream.channels
 }
@@ -62,13 +99,19 @@ fn pair_from(stream: LinkStream, channel: u8) -> Signal
 }
 
 /// What an output converter makes of the stream.
-fn converted(settings: &Settings, stream: LinkStream, nid: u8, node: &RawNode) -> Signal
-    ensures { result ≡ spec.converted settings.now stream nid node.now }
+fn converted(
+    kind: PinKind,
+    settings: &Settings,
+    stream: LinkStream,
+    nid: u8,
+    node: &RawNode,
+) -> Signal
+    ensures { result ≡ spec.converted kind settings.now stream nid node.now }
 {
-    if !takes(settings, stream, nid) {
+    if !takes_as(kind, settings, stream, nid) {
         return Signal::Silence;
     }
-    if converts_otherwise(settings, stream, nid, node) {
+    if converts_otherwise(kind, settings, stream, nid, node) {
         return Signal::Altered;
     }
     pair_from(stream, channel_at(settings, nid))
@@ -84,6 +127,25 @@ fn mixed(codec: &RawCodec, settings: &Settings, table: &Table, nid: u8, node: &R
         sum = sum.plus(after_input(codec, settings, nid, node, place, input));
     }
     sum
+}
+
+/// What a mixer makes for pins of the kind: nothing for digital ones.
+fn mixed_as(
+    kind: PinKind,
+    codec: &RawCodec,
+    settings: &Settings,
+    table: &Table,
+    nid: u8,
+    node: &RawNode,
+) -> Signal
+    ensures { result ≡ spec.mixed_as kind codec.now settings.now (in_table table.now) nid node.now }
+{
+    match kind {
+        PinKind::Analog => {
+            mixed(codec, settings, table, nid, node).changed_if(!node.is_stereo())
+        }
+        PinKind::Digital => Signal::Silence,
+    }
 }
 
 /// The place of its list that a selector or pin selects (HDA 1.0a, 7.3.3.2).
@@ -129,6 +191,7 @@ fn passed_on(
 
 /// What the widget makes of the stream and of the signals that the nodes give which it lists.
 fn made(
+    kind: PinKind,
     codec: &RawCodec,
     settings: &Settings,
     stream: LinkStream,
@@ -136,12 +199,12 @@ fn made(
     nid: u8,
     node: &RawNode,
 ) -> Signal
-    ensures { result ≡ spec.made codec.now settings.now stream (in_table table.now) nid node.now }
+    ensures { result ≡ spec.made kind codec.now settings.now stream (in_table table.now) nid node.now }
 {
     if node.is_output_converter() {
-        converted(settings, stream, nid, node)
+        converted(kind, settings, stream, nid, node)
     } else if node.is_mixer() {
-        mixed(codec, settings, table, nid, node).changed_if(!node.is_stereo())
+        mixed_as(kind, codec, settings, table, nid, node)
     } else if node.is_selector() {
         passed_on(codec, settings, table, nid, node).changed_if(!node.is_stereo())
     } else {
@@ -150,15 +213,16 @@ fn made(
 }
 
 /// What the node gives, if the nodes that it lists give what the table says.
-#[tactic(auto, unfolding(crate::specs::Signals::gives))]
+#[tactic(auto, unfolding(crate::specs::Signals::gives_as))]
 pub(crate) fn gives(
+    kind: PinKind,
     codec: &RawCodec,
     settings: &Settings,
     stream: LinkStream,
     table: &Table,
     nid: u8,
 ) -> Signal
-    ensures { result ≡ spec.gives codec.now settings.now stream (in_table table.now) nid }
+    ensures { result ≡ spec.gives_as kind codec.now settings.now stream (in_table table.now) nid }
 {
     let Some(node) = codec.node(nid) else {
         return Signal::Silence;
@@ -166,6 +230,6 @@ pub(crate) fn gives(
     if is_off(codec, settings, nid, node) {
         return Signal::Silence;
     }
-    let signal = made(codec, settings, stream, table, nid, node);
+    let signal = made(kind, codec, settings, stream, table, nid, node);
     after_output(codec, settings, nid, node, signal)
 }

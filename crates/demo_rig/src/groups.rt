@@ -3,6 +3,7 @@
 ghost use Rattle.std.specs.Prelude.{◌≡◌, ◌≤◌, false, IfSome};
 ghost use Rattle.hda_files.specs.Machines.{IsSound};
 ghost use Rattle.rig.specs.Rigs.{setting_of};
+ghost use Rattle.route_planner.specs.declared.pin_kind.PinKind.TheVariants.{Analog};
 
 use crate::command::CODEC;
 use dma_pool::{Lent, Pool, REGION_BYTES};
@@ -65,8 +66,10 @@ fn use_memory<P: Platform>(platform: &mut P, lent: &mut Lent)
 fn run(alloc: Global, rig: &mut Rig, lent: &mut Lent) -> Result<(), AllocError>
     requires closed { (setting_of rig.old).in_run ≡ false }
     requires sound { IsSound (setting_of rig.old).machine }
+    requires kind { (setting_of rig.old).kind ≡ Analog }
     ensures same { lent.new ≡ lent.old }
     ensures sound { IsSound (setting_of rig.new).machine }
+    ensures kind { (setting_of rig.new).kind ≡ Analog }
 {
     let few = groups_of(
         alloc,
@@ -94,7 +97,8 @@ fn run(alloc: Global, rig: &mut Rig, lent: &mut Lent) -> Result<(), AllocError>
 /// How many items the pin of the first codec heard. `None` where it is no candidate pin, or where memory is wanting.
 #[tactic(auto, using(rig::proofs::Callers::candidate_known))]
 fn heard_by(alloc: Global, rig: &Rig, pin: u8) -> Option<usize>
-    requires { IsSound (setting_of rig.now).machine }
+    requires sound { IsSound (setting_of rig.now).machine }
+    requires kind { (setting_of rig.now).kind ≡ Analog }
 {
     let codecs = rig.machine().codecs.as_slice();
     if codecs.is_empty() {
@@ -112,6 +116,7 @@ fn heard_by(alloc: Global, rig: &Rig, pin: u8) -> Option<usize>
 fn opened(alloc: Global) -> Option<Rig>
     ensures closed { IfSome result (λ rig. (setting_of rig).in_run ≡ false) }
     ensures sound { IfSome result (λ rig. IsSound (setting_of rig).machine) }
+    ensures kind { IfSome result (λ rig. (setting_of rig).kind ≡ Analog) }
 {
     match read_machine(alloc, CODEC.as_bytes()) {
         Ok(machine) => match Rig::new(alloc, machine) {

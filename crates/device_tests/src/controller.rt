@@ -1,6 +1,6 @@
 //! A controller with its codec, its output stream and what its pin hears, by direct calls.
 ghost use Rattle.std.specs.Prelude.{◌≡◌, ◌≤◌, ◌+◌, map, Contains, IfOk, IfSome, OnOk};
-ghost use Rattle.hda_controller.specs.Hearing.{AreHeard};
+ghost use Rattle.hda_controller.specs.Hearing.{AreHeardAs};
 ghost use Rattle.device_core.specs.Codecs.{addresses_of};
 
 use codec_sound::Heard;
@@ -56,7 +56,7 @@ fn first_address(machine: &Machine) -> Option<u8>
 
 /// The controller of the file's machine, in reset.
 fn open(alloc: Global, text: &str) -> Result<Desk, Fail>
-    ensures lists { IfOk result (λ desk. AreHeard desk.controller.device.codecs desk.lists) }
+    ensures lists { IfOk result (λ desk. AreHeardAs desk.controller.kind desk.controller.device.codecs desk.lists) }
     ensures codec { IfOk result (λ desk. Contains (addresses_of desk.controller.device.codecs) desk.codec) }
 {
     let machine = read_machine(alloc, text.as_bytes())?;
@@ -72,9 +72,10 @@ impl Desk {
     /// Lets the device make some steps, for which the lists get room.
     #[tactic(auto, using(hda_controller::proofs::Callers::heard_reserved))]
     fn run(&mut self, memory: &mut [u8], steps: &[Step]) -> Result<(), Fail>
-        requires lists { AreHeard self.old.controller.device.codecs self.old.lists }
+        requires lists { AreHeardAs self.old.controller.kind self.old.controller.device.codecs self.old.lists }
         requires codec { Contains (addresses_of self.old.controller.device.codecs) self.old.codec }
-        ensures lists { OnOk result (AreHeard self.new.controller.device.codecs self.new.lists) }
+        ensures lists { OnOk result
+            (AreHeardAs self.new.controller.kind self.new.controller.device.codecs self.new.lists) }
         ensures codec { OnOk result (Contains (addresses_of self.new.controller.device.codecs) self.new.codec) }
     {
         for step in steps {
@@ -86,9 +87,9 @@ impl Desk {
 
     /// Writes some registers.
     fn write(&mut self, writes: &[(u16, Width, u32)])
-        requires lists { AreHeard self.old.controller.device.codecs self.old.lists }
+        requires lists { AreHeardAs self.old.controller.kind self.old.controller.device.codecs self.old.lists }
         requires codec { Contains (addresses_of self.old.controller.device.codecs) self.old.codec }
-        ensures lists { AreHeard self.new.controller.device.codecs self.new.lists }
+        ensures lists { AreHeardAs self.new.controller.kind self.new.controller.device.codecs self.new.lists }
         ensures codec { Contains (addresses_of self.new.controller.device.codecs) self.new.codec }
     {
         for (at, width, value) in writes {

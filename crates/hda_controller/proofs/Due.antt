@@ -1,4 +1,5 @@
 -- The blocks that are due in a link frame, and what pins hear of them.
+use Rattle.route_planner.specs.declared.pin_kind.PinKind.{PinKind}
 use Rattle.std.proofs.Common.{◌≡◌, ◌≤◌, ◌*◌, ◌/◌, ℕ, List, length, take, Option, Some, None, sym, ap, subst, ◌∙◌, arith}
 use Rattle.std.specs.Option.{unwrap_or}
 use Rattle.std.proofs.Math.Nat.{mul-div_cancel}
@@ -12,7 +13,7 @@ use Rattle.stream_format.specs.Layouts.{Layout, layout, layout_of}
 use Rattle.stream_format.proofs.Callers.{bounded}
 use Rattle.world_streams.proofs.Callers.{few_bytes, some_block, few_blocks}
 use Rattle.codec_sound.specs.Signals.{IsAmong}
-use Rattle.codec_sound.specs.HeardLists.{signal_with}
+use Rattle.codec_sound.specs.HeardLists.{signal_with_as}
 use Rattle.codec_sound.proofs.Callers.{among-signal_of}
 use Rattle.heard_lists.specs.Listings.{Listing, HasRoom}
 use Rattle.hda_controller.specs.Hearing.{AreDue}
@@ -66,9 +67,9 @@ module _ (word blocks : ℕ) (format : Format) (due : AreDue word blocks) (is : 
 
 -- ---- the pairs that pins hear are among the format's channels
 
-among_with : (format : Format) (found : Option CodecState) (tag word pin : ℕ) → IsAmong format.channels (signal_with found tag word (Some (layout format)) pin)
-among_with format None tag word pin = tt
-among_with format (Some codec) tag word pin = among-signal_of codec.graph codec.settings _ pin format.even
+among_with : (kind : PinKind) (format : Format) (found : Option CodecState) (tag word pin : ℕ) → IsAmong format.channels (signal_with_as kind found tag word (Some (layout format)) pin)
+among_with kind format None tag word pin = tt
+among_with kind format (Some codec) tag word pin = among-signal_of kind codec.graph codec.settings _ pin format.even
 
-pub among : (format : Format) (found : Option CodecState) (tag word pin : ℕ) → Some (layout format) ≡ layout_of word → IsAmong format.channels (signal_with found tag word (layout_of word) pin)
-among format found tag word pin is = subst (λ (o : Option Layout). IsAmong format.channels (signal_with found tag word o pin)) is (among_with format found tag word pin)
+pub among : (kind : PinKind) (format : Format) (found : Option CodecState) (tag word pin : ℕ) → Some (layout format) ≡ layout_of word → IsAmong format.channels (signal_with_as kind found tag word (layout_of word) pin)
+among kind format found tag word pin is = subst (λ (o : Option Layout). IsAmong format.channels (signal_with_as kind found tag word o pin)) is (among_with kind format found tag word pin)

@@ -1,4 +1,5 @@
 -- What a step adds to heard lists.
+use Rattle.route_planner.specs.declared.pin_kind.PinKind.{PinKind}
 use Rattle.std.proofs.Common.{◌≡◌, ◌≤◌, ◌+◌, ◌*◌, ◌&&◌, ◌⊎◌, inl, inr, ℕ, zero, suc, Bool, true, false, nat_le, nat_lt, List, [], ◌∷◌, ◌++◌, length, map, take, Option, Some, None, if◌then◌else◌, refl, sym, ap, ◌∙◌, arith}
 use Rattle.std.proofs.lemmas.List.{append-nil, append_assoc, take_at, length-take-le, length-drop}
 use Rattle.std.proofs.lemmas.Bool.Decides.{nat_tests}
@@ -15,27 +16,27 @@ use Rattle.world_streams.specs.Output as output
 use Rattle.stream_descriptor.specs.Running.{found_at, stream_at}
 use Rattle.stream_descriptor.specs.Frames.{AreDue as AreDueOf}
 use Rattle.codec_sound.specs.declared.signals.Signal.{Signal}
-use Rattle.codec_sound.specs.HeardLists.{signal_with}
+use Rattle.codec_sound.specs.HeardLists.{signal_with_as}
 use Rattle.hda_world.specs.Worlds.{World, CarriedFrame, output_of, codec_at}
 use Rattle.hda_world.specs.Steps as steps
 use Rattle.hda_world.specs.Steps.{frame_carried, frame_step, output_framed, passed, times, waiting_of, is_busy, address_of}
 use Rattle.device_core.specs.Devices.{DeviceState, KeepsSound}
-use Rattle.heard_lists.specs.Listings.{Listing, grown, with_blocks}
+use Rattle.heard_lists.specs.Listings.{Listing, grown_as, with_blocks}
 use Rattle.heard_lists.proofs.Callers.{grown-append, grown-none, blocks-grow}
 use Rattle.hda_controller.specs.Controllers.{signal_now}
-use Rattle.hda_controller.specs.Hearing.{AreDue, Grew}
+use Rattle.hda_controller.specs.Hearing.{AreDue, GrewAs}
 
 -- ---- worlds in turn
 
 -- no link frame carried anything
-pub grew_still : (before after : World) (lists : List Listing) → after.carried ≡ before.carried → Grew before after lists lists
-grew_still before after lists stays = record { added = []; carried = stays ∙ sym (append-nil before.carried); lists = sym (grown-none lists) }
+pub grew_still : (kind : PinKind) (before after : World) (lists : List Listing) → after.carried ≡ before.carried → GrewAs kind before after lists lists
+grew_still kind before after lists stays = record { added = []; carried = stays ∙ sym (append-nil before.carried); lists = sym (grown-none kind lists) }
 
-pub grew_on : (before middle after : World) (old between new : List Listing) → Grew before middle old between → Grew middle after between new → Grew before after old new
-grew_on before middle after old between new first second = record {
+pub grew_on : (kind : PinKind) (before middle after : World) (old between new : List Listing) → GrewAs kind before middle old between → GrewAs kind middle after between new → GrewAs kind before after old new
+grew_on kind before middle after old between new first second = record {
   added = first.added ++ second.added;
   carried = second.carried ∙ (ap (λ (frames : List CarriedFrame). frames ++ second.added) first.carried ∙ append_assoc before.carried first.added second.added);
-  lists = second.lists ∙ (ap (grown second.added) first.lists ∙ grown-append first.added second.added old);
+  lists = second.lists ∙ (ap (grown_as kind second.added) first.lists ∙ grown-append kind first.added second.added old);
 }
 
 -- a move more
@@ -48,7 +49,7 @@ times-one_more count move world = let e : count + 1 ≡ suc count = omega arith 
 
 -- ---- a link frame
 
-module _ (world : World) where
+module _ (kind : PinKind) (world : World) where
   abbrev found : output.Frame
   found = found_at 1 world.registers world.output
 
@@ -62,22 +63,22 @@ module _ (world : World) where
   carried_found carriages is =
       carried_when (is_out_of_reset world.registers.global) ∙ ap (λ (list : List Carriage). world.carried ++ map (frame_carried world) list) is
 
-  pub grew_idle : (lists : List Listing) → (found ≡ output.Stopped) ⊎ (found ≡ output.Broken) → Grew world (frame_step world) lists lists
-  grew_idle lists none = grew_still world (frame_step world) lists (carried_found [] (elim none [
+  pub grew_idle : (lists : List Listing) → (found ≡ output.Stopped) ⊎ (found ≡ output.Broken) → GrewAs kind world (frame_step world) lists lists
+  grew_idle lists none = grew_still kind world (frame_step world) lists (carried_found [] (elim none [
     | inl stopped ↦ ap (λ (f : output.Frame). carried_by f (output_of world)) stopped
     | inr broken ↦ ap (λ (f : output.Frame). carried_by f (output_of world)) broken
   ]) ∙ append-nil world.carried)
 
-  grew_one : (carriage : Carriage) (old new : List Listing) → carried_by found (output_of world) ≡ carriage ∷ [] → new ≡ grown (frame_carried world carriage ∷ []) old → Grew world (frame_step world) old new
+  grew_one : (carriage : Carriage) (old new : List Listing) → carried_by found (output_of world) ≡ carriage ∷ [] → new ≡ grown_as kind (frame_carried world carriage ∷ []) old → GrewAs kind world (frame_step world) old new
   grew_one carriage old new is lists = record { added = frame_carried world carriage ∷ []; carried = carried_found (carriage ∷ []) is; lists = lists }
 
-  pub grew_gap : (old new : List Listing) → found ≡ output.Gap → new ≡ grown (frame_carried world (Sent []) ∷ []) old → Grew world (frame_step world) old new
+  pub grew_gap : (old new : List Listing) → found ≡ output.Gap → new ≡ grown_as kind (frame_carried world (Sent []) ∷ []) old → GrewAs kind world (frame_step world) old new
   grew_gap old new gap lists = grew_one (Sent []) old new (ap (λ (f : output.Frame). carried_by f (output_of world)) gap) lists
 
-  pub grew_hole : (old new : List Listing) → found ≡ output.Hole → new ≡ grown (frame_carried world Missed ∷ []) old → Grew world (frame_step world) old new
+  pub grew_hole : (old new : List Listing) → found ≡ output.Hole → new ≡ grown_as kind (frame_carried world Missed ∷ []) old → GrewAs kind world (frame_step world) old new
   grew_hole old new hole lists = grew_one Missed old new (ap (λ (f : output.Frame). carried_by f (output_of world)) hole) lists
 
-  pub grew_blocks : (old new : List Listing) → found ≡ output.Blocks → new ≡ grown (frame_carried world (Sent (take (due (output_of world)) (held_bytes world.output))) ∷ []) old → Grew world (frame_step world) old new
+  pub grew_blocks : (old new : List Listing) → found ≡ output.Blocks → new ≡ grown_as kind (frame_carried world (Sent (take (due (output_of world)) (held_bytes world.output))) ∷ []) old → GrewAs kind world (frame_step world) old new
   grew_blocks old new blocks lists = grew_one (Sent (take (due (output_of world)) (held_bytes world.output))) old new (ap (λ (f : output.Frame). carried_by f (output_of world)) blocks) lists
 
 -- ---- its blocks
@@ -121,19 +122,19 @@ due_here world blocks old new registers sound laid = record {
 }
 
 -- signals by the codecs, the tag and the format word of a moment
-abbrev pub signals : List CodecState → ℕ → ℕ → ℕ → ℕ → Signal
-signals codecs tag word codec pin = signal_with (codec_at codec codecs) tag word (layout_of word) pin
+abbrev pub signals : PinKind → List CodecState → ℕ → ℕ → ℕ → ℕ → Signal
+signals kind codecs tag word codec pin = signal_with_as kind (codec_at codec codecs) tag word (layout_of word) pin
 
-same_signals : (first second : List CodecState) (tag other word format : ℕ) → first ≡ second → tag ≡ other → word ≡ format → signals first tag word ≡ signals second other format
-same_signals first second tag other word format codecs tags words =
-    ap (λ (list : List CodecState). signals list tag word) codecs ∙ (ap (λ (t : ℕ). signals second t word) tags ∙ ap (λ (w : ℕ). signals second other w) words)
+same_signals : (kind : PinKind) (first second : List CodecState) (tag other word format : ℕ) → first ≡ second → tag ≡ other → word ≡ format → signals kind first tag word ≡ signals kind second other format
+same_signals kind first second tag other word format codecs tags words =
+    ap (λ (list : List CodecState). signals kind list tag word) codecs ∙ (ap (λ (t : ℕ). signals kind second t word) tags ∙ ap (λ (w : ℕ). signals kind second other w) words)
 
-module _ (world : World) (device : DeviceState) (blocks : ℕ) (bytes : List ℕ) (old new : List Listing) (rest : List ℕ)
+module _ (kind : PinKind) (world : World) (device : DeviceState) (blocks : ℕ) (bytes : List ℕ) (old new : List Listing) (rest : List ℕ)
     (codecs : device.codecs ≡ world.codecs) (tag : device.registers.output.tag ≡ world.registers.output.tag) (word : device.registers.output.format ≡ world.registers.output.format) where
   -- lists that heard the blocks by the signals of the device, which are those of the world, grew by the frame
-  pub blocks_heard : found world ≡ output.Blocks → AreDueOf (output_of world) blocks → bytes ≡ take (due (output_of world)) (held_bytes world.output) ++ rest
-      → ((layout : Layout) → layout_of device.registers.output.format ≡ Some layout → new ≡ map (with_blocks (signal_now device) layout (take (blocks * bytes_of_block layout.channels layout.bits) bytes)) old)
-      → Grew world (frame_step world) old new
+  pub blocks_heard : found kind world ≡ output.Blocks → AreDueOf (output_of world) blocks → bytes ≡ take (due (output_of world)) (held_bytes world.output) ++ rest
+      → ((layout : Layout) → layout_of device.registers.output.format ≡ Some layout → new ≡ map (with_blocks (signal_now kind device) layout (take (blocks * bytes_of_block layout.channels layout.bits) bytes)) old)
+      → GrewAs kind world (frame_step world) old new
   blocks_heard is laid stand heard =
       let layout = laid.0 in
       let stream = output_of world in
@@ -141,14 +142,14 @@ module _ (world : World) (device : DeviceState) (blocks : ℕ) (bytes : List ℕ
       let sent = take (due stream) (held_bytes world.output) in
       let front : take (blocks * bytes_of_block layout.channels layout.bits) bytes ≡ sent =
       ap (λ (n : ℕ). take n bytes) (due_laid stream blocks layout laid.1 laid.2) ∙ (ap (take (due stream)) stand ∙ front_sent stream rest enough) in
-      let by_device : new ≡ map (with_blocks (signal_now device) layout (take (blocks * bytes_of_block layout.channels layout.bits) bytes)) old =
+      let by_device : new ≡ map (with_blocks (signal_now kind device) layout (take (blocks * bytes_of_block layout.channels layout.bits) bytes)) old =
       heard layout (ap layout_of word ∙ laid.1) in
       let frame = frame_carried world (Sent sent) in
-      grew_blocks world old new is
+      grew_blocks kind world old new is
       (by_device
-      ∙ (ap (λ (b : List ℕ). map (with_blocks (signal_now device) layout b) old) front
-      ∙ (ap (λ (s : ℕ → ℕ → Signal). map (with_blocks s layout sent) old) (same_signals device.codecs world.codecs device.registers.output.tag world.registers.output.tag device.registers.output.format world.registers.output.format codecs tag word)
-      ∙ blocks-grow frame layout sent old laid.1 refl)))
+      ∙ (ap (λ (b : List ℕ). map (with_blocks (signal_now kind device) layout b) old) front
+      ∙ (ap (λ (s : ℕ → ℕ → Signal). map (with_blocks s layout sent) old) (same_signals kind device.codecs world.codecs device.registers.output.tag world.registers.output.tag device.registers.output.format world.registers.output.format codecs tag word)
+      ∙ blocks-grow kind frame layout sent old laid.1 refl)))
 
 -- ---- steps that carry nothing
 

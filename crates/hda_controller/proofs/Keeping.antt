@@ -1,4 +1,5 @@
 -- Kept signals stay those of the moment while settings, tag and format stay.
+use Rattle.route_planner.specs.declared.pin_kind.PinKind.{PinKind}
 use Rattle.std.proofs.Common.{◌≡◌, ℕ, zero, suc, List, [], ◌∷◌, length, map, drop, get_or, Option, Some, None, refl, sym, ap, subst, ◌∙◌}
 use Rattle.std.specs.Prelude.{slice_get}
 use Rattle.std.specs.Option.{unwrap_or}
@@ -28,30 +29,30 @@ pub same_count : (old new : List CodecState) → graphs_of_all new ≡ graphs_of
 same_count old new graphs = sym (length-map old (λ codec. codec.graph)) ∙ (ap length (sym graphs) ∙ length-map new (λ codec. codec.graph))
 
 -- what depends on the parts alone goes over from one codec to another
-IsKeptFor-by : (tag word : ℕ) (first second : CodecState) (one : KeptSignals) → first.graph ≡ second.graph → first.settings ≡ second.settings
-    → IsKeptFor tag word first.graph first.settings one → IsKeptFor tag word second.graph second.settings one
-IsKeptFor-by tag word first second one graphs settings is =
-    subst (λ (graph : RawCodec). IsKeptFor tag word graph second.settings one) graphs
-    (subst (λ (entries : Entries). IsKeptFor tag word first.graph entries one) settings is)
+IsKeptFor-by : (kind : PinKind) (tag word : ℕ) (first second : CodecState) (one : KeptSignals) → first.graph ≡ second.graph → first.settings ≡ second.settings
+    → IsKeptFor kind tag word first.graph first.settings one → IsKeptFor kind tag word second.graph second.settings one
+IsKeptFor-by kind tag word first second one graphs settings is =
+    subst (λ (graph : RawCodec). IsKeptFor kind tag word graph second.settings one) graphs
+    (subst (λ (entries : Entries). IsKeptFor kind tag word first.graph entries one) settings is)
 
-pub codecs_stay : (tag word : ℕ) (old new : List CodecState) (kept : List KeptSignals) → KeepCodecs old new → AreKeptFor tag word old kept → AreKeptFor tag word new kept
-codecs_stay tag word old new kept keeps are = record {
+pub codecs_stay : (kind : PinKind) (tag word : ℕ) (old new : List CodecState) (kept : List KeptSignals) → KeepCodecs old new → AreKeptFor kind tag word old kept → AreKeptFor kind tag word new kept
+codecs_stay kind tag word old new kept keeps are = record {
   count = are.count ∙ same_count old new keeps.graphs;
   each = λ place codec one at there. (
       let graph = part_there (λ c. c.graph) old new keeps.graphs place codec at in
       let entries = part_there (λ c. c.settings) old new keeps.settings place codec at in
-      IsKeptFor-by tag word graph.0 codec one graph.2
+      IsKeptFor-by kind tag word graph.0 codec one graph.2
       (ap (λ (c : CodecState). c.settings) (same_there old place graph.0 entries.0 graph.1 entries.1) ∙ entries.2)
       (are.each place graph.0 one graph.1 there));
 }
 
 -- a device that keeps all that signals depend on
-pub device_stays : (old new : DeviceState) (kept : List KeptSignals) → KeepCodecs old.codecs new.codecs → KeepsSound old.registers new.registers
-    → AreKeptFor old.registers.output.tag old.registers.output.format old.codecs kept → AreKeptFor new.registers.output.tag new.registers.output.format new.codecs kept
-device_stays old new kept keeps sound are =
-    subst (λ (tag : ℕ). AreKeptFor tag new.registers.output.format new.codecs kept) (sym sound.tag)
-    (subst (λ (word : ℕ). AreKeptFor old.registers.output.tag word new.codecs kept) (sym sound.format)
-    (codecs_stay old.registers.output.tag old.registers.output.format old.codecs new.codecs kept keeps are))
+pub device_stays : (kind : PinKind) (old new : DeviceState) (kept : List KeptSignals) → KeepCodecs old.codecs new.codecs → KeepsSound old.registers new.registers
+    → AreKeptFor kind old.registers.output.tag old.registers.output.format old.codecs kept → AreKeptFor kind new.registers.output.tag new.registers.output.format new.codecs kept
+device_stays kind old new kept keeps sound are =
+    subst (λ (tag : ℕ). AreKeptFor kind tag new.registers.output.format new.codecs kept) (sym sound.tag)
+    (subst (λ (word : ℕ). AreKeptFor kind old.registers.output.tag word new.codecs kept) (sym sound.format)
+    (codecs_stay kind old.registers.output.tag old.registers.output.format old.codecs new.codecs kept keeps are))
 
 pub keeps_same : (old new : List CodecState) → new ≡ old → KeepCodecs old new
 keeps_same old new same = record { graphs = ap graphs_of_all same; settings = ap settings_of_all same }

@@ -1,4 +1,5 @@
 -- A machine's codecs at the start, and the place of a codec by its address.
+use Rattle.route_planner.specs.declared.pin_kind.PinKind.{PinKind}
 use Rattle.std.proofs.Common.{◌≡◌, ◌≤◌, ◌<◌, ◌==◌, ℕ, Bool, true, false, List, [], ◌∷◌, length, map, get_or, Some, refl, sym, ap, subst, ◌∙◌, arith, eq-eqb, suc, if◌then◌else◌}
 use Rattle.std.specs.Prelude.{All, Contains}
 use Rattle.std.specs.List.{position_or_len}
@@ -14,7 +15,7 @@ use Rattle.device_core.specs.Codecs.{AreAddresses, AreIdle, addresses_of, place_
 use Rattle.hda_world.specs.Worlds.{codec_at}
 use Rattle.std.proofs.lemmas.Bool.{eqb-true}
 use Rattle.device_core.proofs.Callers.{place_by}
-use Rattle.hda_controller.specs.Controllers.{is_candidate_in, is_candidate_of}
+use Rattle.hda_controller.specs.Controllers.{is_candidate_in, is_candidate_of_kind}
 use Rattle.hda_controller.specs.Openings.{codec_in, codecs_in}
 
 addresses-in : (files : List CodecFile) → addresses_of (codecs_in files) ≡ map (λ file. file.graph.address) files
@@ -51,11 +52,11 @@ none_has address (c ∷ codecs) place end before there =
     let never : true ≡ false = sym hit ∙ miss in cc
 
 -- a pin that is a candidate is one of a codec that is there
-candidate_by : (codec : CodecState) (codecs : List CodecState) (address pin : ℕ) (named : Bool) → (codec.graph.address == address) ≡ named → (is_candidate_of codecs address pin ≡ true → Contains (addresses_of codecs) address)
-    → is_candidate_in (if named then Some codec else codec_at address codecs) pin ≡ true → Contains (addresses_of (codec ∷ codecs)) address
-candidate_by codec codecs address pin true is rest candidate = (0, omega arith, eqb-true codec.graph.address address is)
-candidate_by codec codecs address pin false is rest candidate = (let there = rest candidate in (suc there.0, omega (arith, there.1), there.2))
+candidate_by : (kind : PinKind) (codec : CodecState) (codecs : List CodecState) (address pin : ℕ) (named : Bool) → (codec.graph.address == address) ≡ named → (is_candidate_of_kind kind codecs address pin ≡ true → Contains (addresses_of codecs) address)
+    → is_candidate_in kind (if named then Some codec else codec_at address codecs) pin ≡ true → Contains (addresses_of (codec ∷ codecs)) address
+candidate_by kind codec codecs address pin true is rest candidate = (0, omega arith, eqb-true codec.graph.address address is)
+candidate_by kind codec codecs address pin false is rest candidate = (let there = rest candidate in (suc there.0, omega (arith, there.1), there.2))
 
-pub candidate_there : (codecs : List CodecState) (address pin : ℕ) → is_candidate_of codecs address pin ≡ true → Contains (addresses_of codecs) address
-candidate_there [] address pin candidate = (let never : false ≡ true = candidate in cc)
-candidate_there (codec ∷ codecs) address pin candidate = candidate_by codec codecs address pin (codec.graph.address == address) refl (candidate_there codecs address pin) candidate
+pub candidate_there : (kind : PinKind) (codecs : List CodecState) (address pin : ℕ) → is_candidate_of_kind kind codecs address pin ≡ true → Contains (addresses_of codecs) address
+candidate_there kind [] address pin candidate = (let never : false ≡ true = candidate in cc)
+candidate_there kind (codec ∷ codecs) address pin candidate = candidate_by kind codec codecs address pin (codec.graph.address == address) refl (candidate_there kind codecs address pin) candidate

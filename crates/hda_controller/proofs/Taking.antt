@@ -1,4 +1,5 @@
 -- Kept signals after a step of CORB's engine.
+use Rattle.route_planner.specs.declared.pin_kind.PinKind.{PinKind}
 use Rattle.std.proofs.Common.{◌≡◌, ◌≢◌, inl, inr, ℕ, zero, suc, Bool, true, false, List, [], ◌∷◌, length, map, set, get_or, Option, Some, None, if◌then◌else◌, refl, sym, ap, subst, ◌∙◌}
 use Rattle.std.specs.Prelude.{Vec, IfSome, slice_get, slice_index, slice_set}
 use Rattle.std.specs.Vec.{with_items}
@@ -63,7 +64,7 @@ get-set_other (y ∷ xs) zero (suc other) x apart = refl
 get-set_other (y ∷ xs) (suc place) zero x apart = refl
 get-set_other (y ∷ xs) (suc place) (suc other) x apart = get-set_other xs place other x (λ same. apart (ap suc same))
 
-module _ (tag word : ℕ) (codecs : List CodecState) (kept : List KeptSignals) (handed : Handed) where
+module _ (kind : PinKind) (tag word : ℕ) (codecs : List CodecState) (kept : List KeptSignals) (handed : Handed) where
   abbrev after_command : List CodecState
   after_command = with_codec (address_of handed.word) (λ codec. taken codec handed.word) codecs
 
@@ -77,28 +78,28 @@ module _ (tag word : ℕ) (codecs : List CodecState) (kept : List KeptSignals) (
   pub count_stays : length codecs ≡ length after_command
   count_stays = same_count codecs after_command graphs_stay
 
-  pub command_fits : AreAddresses (addresses_of codecs) → IsThere codecs handed → AreKeptFor tag word codecs kept
-      → AreKeptFor tag word after_command (one_renewed tag word after_command handed.place kept)
+  pub command_fits : AreAddresses (addresses_of codecs) → IsThere codecs handed → AreKeptFor kind tag word codecs kept
+      → AreKeptFor kind tag word after_command (one_renewed kind tag word after_command handed.place kept)
   command_fits addresses there are = record {
-    count = length-one tag word after_command handed.place kept (are.count ∙ count_stays);
+    count = length-one kind tag word after_command handed.place kept (are.count ∙ count_stays);
     each = λ other codec one at here. (
-        let found = one_there tag word after_command handed.place kept other codec one at here in
+        let found = one_there kind tag word after_command handed.place kept other codec one at here in
         elim found.2 [
           | inl hit ↦ (
               let before = part_there (λ c. c.graph) codecs after_command graphs_stay other codec at in
-              subst (λ (k : KeptSignals). IsKeptFor tag word codec.graph codec.settings k) hit.1
-              (renewed_fits tag word tag word before.0 codec found.0 before.2 (are.each other before.0 found.0 before.1 found.1)))
+              subst (λ (k : KeptSignals). IsKeptFor kind tag word codec.graph codec.settings k) hit.1
+              (renewed_fits kind tag word tag word before.0 codec found.0 before.2 (are.each other before.0 found.0 before.1 found.1)))
           | inr apart ↦ (
               let stays = get-set_other codecs handed.place other (taken (get_or codecs handed.place codec) handed.word) apart.0 in
               let put = changed_here (address_of handed.word) (λ c. taken c handed.word) codecs handed.place codec addresses.ascend there.place in
-              subst (λ (k : KeptSignals). IsKeptFor tag word codec.graph codec.settings k) apart.1
+              subst (λ (k : KeptSignals). IsKeptFor kind tag word codec.graph codec.settings k) apart.1
               (are.each other codec found.0 (sym stays ∙ (ap (λ (list : List CodecState). slice_get list other) (sym put) ∙ at)) found.1))
         ]);
   }
 
 -- ---- whether or not a command was handed
 
-module _ (old new : DeviceState) (kept : List KeptSignals) (count : length kept ≡ length old.codecs) where
+module _ (kind : PinKind) (old new : DeviceState) (kept : List KeptSignals) (count : length kept ≡ length old.codecs) where
   abbrev tag_now : ℕ
   tag_now = new.registers.output.tag
 
@@ -107,49 +108,49 @@ module _ (old new : DeviceState) (kept : List KeptSignals) (count : length kept 
 
   -- the device took the command, and its stream is as it was
   set_fits : (handed : Handed) (set : Bool) → is_set_command handed.word ≡ set → AreAddresses (addresses_of old.codecs) → IsThere old.codecs handed
-      → KeepsSound old.registers new.registers → new.codecs ≡ with_handed (Some handed) old.codecs → AreKeptFor old.registers.output.tag old.registers.output.format old.codecs kept
-      → AreKeptFor tag_now word_now new.codecs (if set then one_renewed tag_now word_now new.codecs handed.place kept else kept)
+      → KeepsSound old.registers new.registers → new.codecs ≡ with_handed (Some handed) old.codecs → AreKeptFor kind old.registers.output.tag old.registers.output.format old.codecs kept
+      → AreKeptFor kind tag_now word_now new.codecs (if set then one_renewed kind tag_now word_now new.codecs handed.place kept else kept)
   set_fits handed true is addresses there sound codecs are =
-      subst (λ (list : List CodecState). AreKeptFor tag_now word_now list (one_renewed tag_now word_now list handed.place kept)) (sym codecs)
-      (subst (λ (tag : ℕ). AreKeptFor tag word_now (with_handed (Some handed) old.codecs) (one_renewed tag word_now (with_handed (Some handed) old.codecs) handed.place kept)) (sym sound.tag)
-      (subst (λ (word : ℕ). AreKeptFor old.registers.output.tag word (with_handed (Some handed) old.codecs) (one_renewed old.registers.output.tag word (with_handed (Some handed) old.codecs) handed.place kept)) (sym sound.format)
-      (command_fits old.registers.output.tag old.registers.output.format old.codecs kept handed addresses there are)))
+      subst (λ (list : List CodecState). AreKeptFor kind tag_now word_now list (one_renewed kind tag_now word_now list handed.place kept)) (sym codecs)
+      (subst (λ (tag : ℕ). AreKeptFor kind tag word_now (with_handed (Some handed) old.codecs) (one_renewed kind tag word_now (with_handed (Some handed) old.codecs) handed.place kept)) (sym sound.tag)
+      (subst (λ (word : ℕ). AreKeptFor kind old.registers.output.tag word (with_handed (Some handed) old.codecs) (one_renewed kind old.registers.output.tag word (with_handed (Some handed) old.codecs) handed.place kept)) (sym sound.format)
+      (command_fits kind old.registers.output.tag old.registers.output.format old.codecs kept handed addresses there are)))
   set_fits handed false is addresses there sound codecs are =
-      device_stays old new kept (subst (λ (list : List CodecState). KeepCodecs old.codecs list) (sym codecs) (command_leaves old.registers.output.tag old.registers.output.format old.codecs kept handed is)) sound are
+      device_stays kind old new kept (subst (λ (list : List CodecState). KeepCodecs old.codecs list) (sym codecs) (command_leaves kind old.registers.output.tag old.registers.output.format old.codecs kept handed is)) sound are
 
   pub handed_fits : (o : Option Handed) → IfSome o (IsThere old.codecs) → AreAddresses (addresses_of old.codecs) → KeepsSound old.registers new.registers
-      → new.codecs ≡ with_handed o old.codecs → AreKeptFor old.registers.output.tag old.registers.output.format old.codecs kept → AreKeptFor tag_now word_now new.codecs (renewed_after o new kept)
-  handed_fits None there addresses sound codecs are = device_stays old new kept (keeps_same old.codecs new.codecs codecs) sound are
+      → new.codecs ≡ with_handed o old.codecs → AreKeptFor kind old.registers.output.tag old.registers.output.format old.codecs kept → AreKeptFor kind tag_now word_now new.codecs (renewed_after kind o new kept)
+  handed_fits None there addresses sound codecs are = device_stays kind old new kept (keeps_same old.codecs new.codecs codecs) sound are
   handed_fits (Some handed) there addresses sound codecs are = set_fits handed (is_set_command handed.word) refl addresses there sound codecs are
 
   -- as many codecs as before
   pub count_after : (o : Option Handed) → new.codecs ≡ with_handed o old.codecs → length kept ≡ length new.codecs
   count_after None codecs = count ∙ ap length (sym codecs)
-  count_after (Some handed) codecs = count ∙ (count_stays old.registers.output.tag old.registers.output.format old.codecs kept handed ∙ ap length (sym codecs))
+  count_after (Some handed) codecs = count ∙ (count_stays kind old.registers.output.tag old.registers.output.format old.codecs kept handed ∙ ap length (sym codecs))
 
   set_renewals : (handed : Handed) (set : Bool) → length kept ≡ length new.codecs
-      → map (λ one. one.renewals) (if set then one_renewed tag_now word_now new.codecs handed.place kept else kept)
+      → map (λ one. one.renewals) (if set then one_renewed kind tag_now word_now new.codecs handed.place kept else kept)
       ≡ (if set then slice_set (map (λ one. one.renewals) kept) handed.place (counted_on (slice_index (map (λ one. one.renewals) kept) handed.place)) else map (λ one. one.renewals) kept)
-  set_renewals handed true size = renewals-one tag_now word_now new.codecs handed.place kept size
+  set_renewals handed true size = renewals-one kind tag_now word_now new.codecs handed.place kept size
   set_renewals handed false size = refl
 
-  pub handed_renewals : (o : Option Handed) → new.codecs ≡ with_handed o old.codecs → map (λ one. one.renewals) (renewed_after o new kept) ≡ renewals_handed o (map (λ one. one.renewals) kept)
+  pub handed_renewals : (o : Option Handed) → new.codecs ≡ with_handed o old.codecs → map (λ one. one.renewals) (renewed_after kind o new kept) ≡ renewals_handed o (map (λ one. one.renewals) kept)
   handed_renewals None codecs = refl
   handed_renewals (Some handed) codecs = set_renewals handed (is_set_command handed.word) (count_after (Some handed) codecs)
 
-  set_count : (handed : Handed) (set : Bool) → length kept ≡ length new.codecs → length (if set then one_renewed tag_now word_now new.codecs handed.place kept else kept) ≡ length kept
-  set_count handed true size = length-one tag_now word_now new.codecs handed.place kept size ∙ sym size
+  set_count : (handed : Handed) (set : Bool) → length kept ≡ length new.codecs → length (if set then one_renewed kind tag_now word_now new.codecs handed.place kept else kept) ≡ length kept
+  set_count handed true size = length-one kind tag_now word_now new.codecs handed.place kept size ∙ sym size
   set_count handed false size = refl
 
-  pub renewed_count : (o : Option Handed) → new.codecs ≡ with_handed o old.codecs → length (renewed_after o new kept) ≡ length kept
+  pub renewed_count : (o : Option Handed) → new.codecs ≡ with_handed o old.codecs → length (renewed_after kind o new kept) ≡ length kept
   renewed_count None codecs = refl
   renewed_count (Some handed) codecs = set_count handed (is_set_command handed.word) (count_after (Some handed) codecs)
 
 -- put back into their vector
-pub handed_back : {Z : Type 0} (v : Vec KeptSignals Z) (kept : List KeptSignals) (o : Option Handed) (old new : DeviceState) → kept ≡ renewed_after o new v.items
-    → length v.items ≡ length old.codecs → new.codecs ≡ with_handed o old.codecs → (with_items v kept).items ≡ renewed_after o new v.items
-handed_back v kept o old new is count codecs =
-    with_items_is v kept (ap length is ∙ (renewed_count old new v.items count o codecs ∙ sym v.ok.0)) ∙ is
+pub handed_back : {Z : Type 0} (kind : PinKind) (v : Vec KeptSignals Z) (kept : List KeptSignals) (o : Option Handed) (old new : DeviceState) → kept ≡ renewed_after kind o new v.items
+    → length v.items ≡ length old.codecs → new.codecs ≡ with_handed o old.codecs → (with_items v kept).items ≡ renewed_after kind o new v.items
+handed_back kind v kept o old new is count codecs =
+    with_items_is v kept (ap length is ∙ (renewed_count kind old new v.items count o codecs ∙ sym v.ok.0)) ∙ is
 
 pub none_or_there : (o : Option Handed) (next : Option ℕ) (codecs : List CodecState) → o ≡ handed_by next codecs → IfSome o (IsThere codecs)
 none_or_there o next codecs is = subst (λ (o : Option Handed). IfSome o (IsThere codecs)) (sym is) (handed_there next codecs)

@@ -1,4 +1,5 @@
 -- Blocks that wait until they are heard.
+use Rattle.route_planner.specs.declared.pin_kind.PinKind.{PinKind}
 use Rattle.std.proofs.Common.{◌≡◌, ◌≤◌, ◌+◌, ◌*◌, true, ℕ, List, [], ◌++◌, length, map, ◌∷◌, Option, Some, None, refl, sym, ap, subst, ◌∙◌, arith, length-append}
 use Rattle.std.proofs.Math.Nat.{zero-div, add-mul}
 use Rattle.std.proofs.lemmas.List.Elements.{All-map}
@@ -11,8 +12,8 @@ use Rattle.device_core.specs.Devices.{DeviceState, KeepsSound}
 use Rattle.codec_sound.specs.declared.heard.Heard.TheVariants.{Hole}
 use Rattle.heard_lists.specs.Listings.{Listing, HasRoom, with_blocks, with_items}
 use Rattle.heard_lists.proofs.Callers.{both_count, blocks-on, no-blocks, HasRoom-fewer}
-use Rattle.hda_controller.specs.Controllers.{is_candidate_of}
-use Rattle.hda_controller.specs.Hearing.{AreHeard}
+use Rattle.hda_controller.specs.Controllers.{is_candidate_of_kind}
+use Rattle.hda_controller.specs.Hearing.{AreHeardAs}
 use Rattle.hda_controller.specs.Unheard.{block_count, AreWhole, with_heard, layout_now, heard_now}
 use Rattle.hda_controller.proofs.Growth.{signals}
 
@@ -63,12 +64,6 @@ module _ (old new : DeviceState) (codecs : new.codecs ≡ old.codecs) (sound : K
   pub layout-same : layout_now new ≡ layout_now old
   layout-same = ap layout_of sound.format
 
-  pub heard-same : (bytes : List ℕ) (lists : List Listing) → heard_now new bytes lists ≡ heard_now old bytes lists
-  heard-same bytes lists =
-      ap (λ (list : List CodecState). with_heard (layout_of new.registers.output.format) (signals list new.registers.output.tag new.registers.output.format) bytes lists) codecs
-      ∙ (ap (λ (tag : ℕ). with_heard (layout_of new.registers.output.format) (signals old.codecs tag new.registers.output.format) bytes lists) sound.tag
-      ∙ ap (λ (word : ℕ). with_heard (layout_of word) (signals old.codecs old.registers.output.tag word) bytes lists) sound.format)
-
   -- what waits is as it was
   pub whole-moved : (bytes : List ℕ) → AreWhole (layout_now old) bytes → AreWhole (layout_now new) bytes
   whole-moved bytes whole = subst (λ (found : Option Layout). AreWhole found bytes) (sym layout-same) whole
@@ -82,17 +77,24 @@ module _ (old new : DeviceState) (codecs : new.codecs ≡ old.codecs) (sound : K
       let same = count-same bytes in
       HasRoom-fewer (block_count (layout_now new) bytes + fewer) (block_count (layout_now old) bytes + items) lists (omega (arith, same, less)) has
 
-  pub listed-moved : (lists : List Listing) → AreHeard old.codecs lists → AreHeard new.codecs lists
-  listed-moved lists are = subst (λ (list : List CodecState). AreHeard list lists) (sym codecs) are
+module _ (kind : PinKind) (old new : DeviceState) (codecs : new.codecs ≡ old.codecs) (sound : KeepsSound old.registers new.registers) where
+  pub heard-same : (bytes : List ℕ) (lists : List Listing) → heard_now kind new bytes lists ≡ heard_now kind old bytes lists
+  heard-same bytes lists =
+      ap (λ (list : List CodecState). with_heard (layout_of new.registers.output.format) (signals kind list new.registers.output.tag new.registers.output.format) bytes lists) codecs
+      ∙ (ap (λ (tag : ℕ). with_heard (layout_of new.registers.output.format) (signals kind old.codecs tag new.registers.output.format) bytes lists) sound.tag
+      ∙ ap (λ (word : ℕ). with_heard (layout_of word) (signals kind old.codecs old.registers.output.tag word) bytes lists) sound.format)
+
+  pub listed-moved : (lists : List Listing) → AreHeardAs kind old.codecs lists → AreHeardAs kind new.codecs lists
+  listed-moved lists are = subst (λ (list : List CodecState). AreHeardAs kind list lists) (sym codecs) are
 
 -- ---- lists of candidate pins stay so
 
-pub listed-on : (codecs : List CodecState) (found : Option Layout) (signal : ℕ → ℕ → Signal) (bytes : List ℕ) (lists : List Listing) → AreHeard codecs lists
-    → AreHeard codecs (with_heard found signal bytes lists)
-listed-on codecs None signal bytes lists are = are
-listed-on codecs (Some layout) signal bytes lists are =
-    All-map (λ (listing : Listing). is_candidate_of codecs listing.codec listing.pin ≡ true) (with_blocks signal layout bytes) lists (λ k d within. are k d within)
+pub listed-on : (kind : PinKind) (codecs : List CodecState) (found : Option Layout) (signal : ℕ → ℕ → Signal) (bytes : List ℕ) (lists : List Listing) → AreHeardAs kind codecs lists
+    → AreHeardAs kind codecs (with_heard found signal bytes lists)
+listed-on kind codecs None signal bytes lists are = are
+listed-on kind codecs (Some layout) signal bytes lists are =
+    All-map (λ (listing : Listing). is_candidate_of_kind kind codecs listing.codec listing.pin ≡ true) (with_blocks signal layout bytes) lists (λ k d within. are k d within)
 
-pub listed-missed : (codecs : List CodecState) (lists : List Listing) → AreHeard codecs lists → AreHeard codecs (map (with_items (Hole ∷ [])) lists)
-listed-missed codecs lists are =
-    All-map (λ (listing : Listing). is_candidate_of codecs listing.codec listing.pin ≡ true) (with_items (Hole ∷ [])) lists (λ k d within. are k d within)
+pub listed-missed : (kind : PinKind) (codecs : List CodecState) (lists : List Listing) → AreHeardAs kind codecs lists → AreHeardAs kind codecs (map (with_items (Hole ∷ [])) lists)
+listed-missed kind codecs lists are =
+    All-map (λ (listing : Listing). is_candidate_of_kind kind codecs listing.codec listing.pin ≡ true) (with_items (Hole ∷ [])) lists (λ k d within. are k d within)

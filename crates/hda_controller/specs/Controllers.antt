@@ -2,11 +2,13 @@
 use Rattle.std.specs.Prelude.{ℕ, ◌==◌, Bool, false, List, map, Option, Some, None, slice_get, slice_set, slice_index}
 use Rattle.std.specs.Prelude.{if◌then◌else◌}
 use Rattle.std.specs.List.{list_any}
-use Rattle.codec_graph.specs.Candidates.{is_candidate}
+use Rattle.route_planner.specs.declared.pin_kind.PinKind.{PinKind}
+use Rattle.route_planner.specs.declared.pin_kind.PinKind.TheVariants.{Analog}
+use Rattle.route_planner.specs.Kinds.{is_candidate_as}
 use Rattle.codec_graph.specs.CodecStates.{CodecState}
 use Rattle.stream_format.specs.Layouts.{layout_of}
 use Rattle.codec_sound.specs.declared.signals.Signal.{Signal}
-use Rattle.codec_sound.specs.HeardLists.{signal_with}
+use Rattle.codec_sound.specs.HeardLists.{signal_with_as}
 use Rattle.codec_sound.specs.Keeping.{KeptSignals, counted_on}
 use Rattle.device_core.specs.declared.codecs.Handed.{Handed}
 use Rattle.device_core.specs.Devices.{DeviceState, IsWorld}
@@ -19,6 +21,8 @@ use Rattle.hda_controller.specs.Keeping.{AreKeptFor}
 pub record ControllerState : Type 0 where
   pub device : DeviceState
   pub kept : List KeptSignals
+  -- for which pins
+  pub kind : PinKind
 
 -- with this memory the controller is this world
 abbrev pub StandsFor : List ℕ → ControllerState → World → Type 0
@@ -27,7 +31,8 @@ StandsFor memory controller world = IsWorld memory controller.device world
 -- the kept signals are those of the moment
 abbrev pub IsController : ControllerState → Type 0
 IsController controller =
-    AreKeptFor controller.device.registers.output.tag controller.device.registers.output.format controller.device.codecs
+    AreKeptFor controller.kind controller.device.registers.output.tag controller.device.registers.output.format
+    controller.device.codecs
     controller.kept
 
 -- whether one of the codecs has this address
@@ -57,16 +62,20 @@ renewals_handed (Some handed) counts =
 
 -- ---- signals
 
-abbrev pub is_candidate_in : Option CodecState → ℕ → Bool
-is_candidate_in None pin = false
-is_candidate_in (Some codec) pin = is_candidate codec.graph pin
+abbrev pub is_candidate_in : PinKind → Option CodecState → ℕ → Bool
+is_candidate_in kind None pin = false
+is_candidate_in kind (Some codec) pin = is_candidate_as kind codec.graph pin
 
--- a candidate pin of the codec with this address
+-- a candidate pin of the kind, of the codec with this address
+abbrev pub is_candidate_of_kind : PinKind → List CodecState → ℕ → ℕ → Bool
+is_candidate_of_kind kind codecs address pin = is_candidate_in kind (codec_at address codecs) pin
+
 abbrev pub is_candidate_of : List CodecState → ℕ → ℕ → Bool
-is_candidate_of codecs address pin = is_candidate_in (codec_at address codecs) pin
+is_candidate_of codecs address pin = is_candidate_of_kind Analog codecs address pin
 
--- the signal of the pin of the codec with this address, by the registers and the settings of a device
-abbrev pub signal_now : DeviceState → ℕ → ℕ → Signal
-signal_now device address pin =
-    signal_with (codec_at address device.codecs) device.registers.output.tag device.registers.output.format
+-- the signal of the pin of the codec with this address as a pin of the kind, by the registers and the settings of a
+-- device
+abbrev pub signal_now : PinKind → DeviceState → ℕ → ℕ → Signal
+signal_now kind device address pin =
+    signal_with_as kind (codec_at address device.codecs) device.registers.output.tag device.registers.output.format
     (layout_of device.registers.output.format) pin

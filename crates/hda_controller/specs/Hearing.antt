@@ -1,14 +1,16 @@
 -- What a step of the device adds to heard lists, and whose signals it renews. This project's own.
 use Rattle.std.specs.Prelude.{◌≡◌, ◌*◌, ◌++◌, ℕ, List, All, true, Some}
 use Rattle.codec_graph.specs.CodecStates.{CodecState}
+use Rattle.route_planner.specs.declared.pin_kind.PinKind.{PinKind}
+use Rattle.route_planner.specs.declared.pin_kind.PinKind.TheVariants.{Analog}
 use Rattle.world_steps.specs.declared.Step.{Step}
 use Rattle.world_steps.specs.declared.Step.TheVariants as step
 use Rattle.stream_format.specs.Cadence.{blocks_of}
 use Rattle.stream_format.specs.Layouts.{Layout, layout_of}
 use Rattle.device_core.specs.Codecs.{handed_now}
 use Rattle.hda_world.specs.Worlds.{World, CarriedFrame}
-use Rattle.heard_lists.specs.Listings.{Listing, grown}
-use Rattle.hda_controller.specs.Controllers.{ControllerState, is_candidate_of, renewals_of, renewals_handed}
+use Rattle.heard_lists.specs.Listings.{Listing, grown_as}
+use Rattle.hda_controller.specs.Controllers.{ControllerState, is_candidate_of_kind, renewals_of, renewals_handed}
 
 -- for how many items in each list a step asks room: a link frame has at most four blocks, and one that misses them adds
 -- one hole
@@ -22,15 +24,23 @@ most_items (step.Link frames) = 4 * frames
 most_items (step.Plug codec pin) = 0
 most_items (step.Unplug codec pin) = 0
 
--- each list is that of a candidate pin of a codec that is there
-abbrev pub AreHeard : List CodecState → List Listing → Type 0
-AreHeard codecs lists = All (λ listing. is_candidate_of codecs listing.codec listing.pin ≡ true) lists
+-- each list is that of a candidate pin of the kind, of a codec that is there
+abbrev pub AreHeardAs : PinKind → List CodecState → List Listing → Type 0
+AreHeardAs kind codecs lists = All (λ listing. is_candidate_of_kind kind codecs listing.codec listing.pin ≡ true) lists
 
--- from one world to another the lists gained the items of the link frames that carried the stream between them
-pub record Grew (before after : World) (old new : List Listing) : Type 0 where
+-- from one world to another the lists gained the items of the link frames that carried the stream between them, as pins
+-- of the kind hear them
+pub record GrewAs (kind : PinKind) (before after : World) (old new : List Listing) : Type 0 where
   pub added : List CarriedFrame
   pub carried : after.carried ≡ before.carried ++ added
-  pub lists : new ≡ grown added old
+  pub lists : new ≡ grown_as kind added old
+
+-- the lists of analog pins
+abbrev pub AreHeard : List CodecState → List Listing → Type 0
+AreHeard codecs lists = AreHeardAs Analog codecs lists
+
+abbrev pub Grew : World → World → List Listing → List Listing → Type 0
+Grew before after old new = GrewAs Analog before after old new
 
 -- how often signals were renewed after a step: once for a codec that CORB's engine hands a command that sets a control
 abbrev pub renewals_stepped : Step → List ℕ → ControllerState → List ℕ

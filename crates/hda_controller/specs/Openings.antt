@@ -3,6 +3,7 @@
 use Rattle.std.specs.Prelude.{◌≡◌, ℕ, List, [], map, All}
 use Rattle.codec_graph.specs.CodecStates.{CodecState}
 use Rattle.codec_sound.specs.Keeping.{KeptSignals}
+use Rattle.route_planner.specs.declared.pin_kind.PinKind.{PinKind}
 use Rattle.hda_files.specs.declared.machine.CodecFile.{CodecFile}
 use Rattle.hda_files.specs.declared.machine.Machine.{Machine}
 use Rattle.hda_files.specs.declared.top.RingSize as files
@@ -40,10 +41,10 @@ opening_world memory machine = new_world memory (shape_of machine) (codecs_in ma
 
 -- what private functions promise one another: the signals of codecs that were never renewed, while no stream has a tag
 -- or a format
-pub record IsFresh (codec : CodecState) (one : KeptSignals) : Type 0 where
-  pub fits : IsKeptFor 0 0 codec.graph codec.settings one
+pub record IsFresh (kind : PinKind) (codec : CodecState) (one : KeptSignals) : Type 0 where
+  pub fits : IsKeptFor kind 0 0 codec.graph codec.settings one
   pub count : one.renewals ≡ 0
 
-pub record AreFresh (codecs : List CodecState) (kept : List KeptSignals) : Type 0 where
-  pub fit : AreKeptFor 0 0 codecs kept
+pub record AreFresh (kind : PinKind) (codecs : List CodecState) (kept : List KeptSignals) : Type 0 where
+  pub fit : AreKeptFor kind 0 0 codecs kept
   pub counts : All (λ one. one.renewals ≡ 0) kept

@@ -2,6 +2,7 @@
 -- own.
 use Rattle.std.specs.Prelude.{◌≡◌, ◌*◌, ◌/◌, ℕ, List, [], length, map, Option, Some, None}
 use Rattle.stream_format.specs.Layouts.{Layout, layout_of}
+use Rattle.route_planner.specs.declared.pin_kind.PinKind.{PinKind}
 use Rattle.codec_sound.specs.declared.signals.Signal.{Signal}
 use Rattle.codec_sound.specs.HeardLists.{block_size}
 use Rattle.device_core.specs.Devices.{DeviceState}
@@ -27,6 +28,6 @@ with_heard (Some layout) signal bytes lists = map (with_blocks signal layout byt
 abbrev pub layout_now : DeviceState → Option Layout
 layout_now device = layout_of device.registers.output.format
 
--- the lists once they heard some bytes by its signals
-abbrev pub heard_now : DeviceState → List ℕ → List Listing → List Listing
-heard_now device bytes lists = with_heard (layout_now device) (signal_now device) bytes lists
+-- the lists of pins of the kind once they heard some bytes by its signals
+abbrev pub heard_now : PinKind → DeviceState → List ℕ → List Listing → List Listing
+heard_now kind device bytes lists = with_heard (layout_now device) (signal_now kind device) bytes lists

@@ -12,10 +12,11 @@ ghost use Rattle.hda_world.specs.Steps as steps;
 ghost use Rattle.hda_world.specs.Events.{after_write};
 ghost use Rattle.device_core.specs.Codecs.{addresses_of, place_of, handed_now};
 ghost use Rattle.hda_files.specs.Machines.{IsSound};
-ghost use Rattle.heard_lists.specs.Listings.{Listing, HasRoom, AreListsOf, graphs_in};
+ghost use Rattle.route_planner.specs.declared.pin_kind.PinKind.TheVariants as pin_kind;
+ghost use Rattle.heard_lists.specs.Listings.{Listing, HasRoom, AreListsAs, AreListsOf, graphs_in};
 ghost use Rattle.hda_controller.specs.Controllers.{StandsFor, has_codec, renewals_of, renewals_written};
-ghost use Rattle.hda_controller.specs.Controllers.{renewals_handed, renewals_at, is_candidate_of, signal_now};
-ghost use Rattle.hda_controller.specs.Hearing.{most_items, AreHeard, Grew, renewals_stepped};
+ghost use Rattle.hda_controller.specs.Controllers.{renewals_handed, renewals_at, is_candidate_of_kind, signal_now};
+ghost use Rattle.hda_controller.specs.Hearing.{most_items, AreHeardAs, GrewAs, renewals_stepped};
 ghost use Rattle.hda_controller.specs.Openings.{opening_world};
 
 mod hearing;
@@ -28,19 +29,22 @@ use device_core::{Device, touches_sound};
 use hda_files::Machine;
 use hda_registers::Width;
 use heard_lists::{HeardLists, Sounds};
+use route_planner::PinKind;
 use std::alloc::{AllocError, Global};
 use std::marker::Model;
 use stream_descriptor::{Frame, MOST_FRAME_BYTES};
 use stream_format::Format;
 use world_steps::Step;
 
-/// A device, with the signals of its codecs' candidate pins as they are at each moment. Contracts see a
+/// A device, with the signals of its codecs' candidate pins of a kind as they are at each moment. Contracts see a
 /// `ControllerState`, and of each call the move of the world (this project's own) that it makes.
 #[derive(Drop)]
 pub struct Controller {
     device: Device,
     /// One for each codec, at the same place.
     kept: Vec<Kept>,
+    /// For which pins.
+    kind: PinKind,
 }
 
 impl Model for Controller {
@@ -48,9 +52,9 @@ impl Model for Controller {
 
     ghost Value = { ControllerState };
 
-    ghost view = { λ c. record { device = c.device; kept = c.kept.items } };
+    ghost view = { λ c. record { device = c.device; kept = c.kept.items; kind = c.kind } };
 
-    ghost invariant = { λ c. IsController (record { device = c.device; kept = c.kept.items }) };
+    ghost invariant = { λ c. IsController (record { device = c.device; kept = c.kept.items; kind = c.kind }) };
 }
 
 impl Controller {
@@ -66,15 +70,58 @@ impl Controller {
         ensures renewals { IfOk result (λ controller. All (λ count. count ≡ 0) (renewals_of controller)) }
         ensures lists { IfOk result (λ controller. (lists : List Listing)
             → AreListsOf (graphs_in machine.now.codecs) lists
-            → AreHeard controller.device.codecs lists) }
+            → AreHeardAs controller.kind controller.device.codecs lists) }
         ensures addresses { IfOk result (λ controller. addresses_of controller.device.codecs ≡ map
             (λ codec. codec.graph.address) machine.now.codecs) }
+        ensures kind { IfOk result (λ controller. controller.kind ≡ pin_kind.Analog) }
+    {
+        Controller::of_kind(alloc, PinKind::Analog, machine)
+    }
+
+    /// The same for the digital candidate pins: what is heard is what these hear as digital pins.
+    ///
+    /// # Errors
+    /// Want of memory.
+    pub fn digital(alloc: Global, machine: &Machine) -> Result<Controller, AllocError>
+        requires { IsSound machine.now }
+        ensures stands { IfOk result (λ controller. (memory : List ℕ)
+            → StandsFor memory controller (opening_world memory machine.now)) }
+        ensures renewals { IfOk result (λ controller. All (λ count. count ≡ 0) (renewals_of controller)) }
+        ensures lists { IfOk result (λ controller. (lists : List Listing)
+            → AreListsAs pin_kind.Digital (graphs_in machine.now.codecs) lists
+            → AreHeardAs controller.kind controller.device.codecs lists) }
+        ensures addresses { IfOk result (λ controller. addresses_of controller.device.codecs ≡ map
+            (λ codec. codec.graph.address) machine.now.codecs) }
+        ensures kind { IfOk result (λ controller. controller.kind ≡ pin_kind.Digital) }
+    {
+        Controller::of_kind(alloc, PinKind::Digital, machine)
+    }
+
+    /// The same for the candidate pins of the kind.
+    ///
+    /// # Errors
+    /// Want of memory.
+    pub fn of_kind(
+        alloc: Global,
+        kind: PinKind,
+        machine: &Machine,
+    ) -> Result<Controller, AllocError>
+        requires { IsSound machine.now }
+        ensures stands { IfOk result (λ controller. (memory : List ℕ)
+            → StandsFor memory controller (opening_world memory machine.now)) }
+        ensures renewals { IfOk result (λ controller. All (λ count. count ≡ 0) (renewals_of controller)) }
+        ensures lists { IfOk result (λ controller. (lists : List Listing)
+            → AreListsAs kind (graphs_in machine.now.codecs) lists
+            → AreHeardAs controller.kind controller.device.codecs lists) }
+        ensures addresses { IfOk result (λ controller. addresses_of controller.device.codecs ≡ map
+            (λ codec. codec.graph.address) machine.now.codecs) }
+        ensures kind { IfOk result (λ controller. controller.kind ≡ kind) }
     {
         let codecs = codecs_of(alloc, machine.codecs.as_slice())?;
-        let kept = all_signals_of(alloc, machine.codecs.as_slice())?;
+        let kept = all_signals_of(alloc, kind, machine.codecs.as_slice())?;
         let shape = shape_of(machine, codecs.as_slice());
         let device = Device::new(alloc, shape, codecs)?;
-        Ok(Controller { device, kept })
+        Ok(Controller { device, kept, kind })
     }
 
     /// A law: with any memory a controller is some world, so the moves that its calls promise are never promised of
@@ -108,10 +155,17 @@ impl Controller {
         self.kept[place].renewals()
     }
 
-    /// The signal of a candidate pin of the codec with this address, as it is now.
+    /// For which pins it keeps signals.
+    pub fn kind(&self) -> PinKind
+        ensures { result ≡ self.now.kind }
+    {
+        self.kind
+    }
+
+    /// The signal of a candidate pin of its kind, of the codec with this address, as it is now.
     pub(crate) fn signal_at(&self, codec: u8, pin: u8) -> Signal
-        requires { is_candidate_of self.now.device.codecs codec pin ≡ true }
-        ensures { result ≡ signal_now self.now.device codec pin }
+        requires { is_candidate_of_kind self.now.kind self.now.device.codecs codec pin ≡ true }
+        ensures { result ≡ signal_now self.now.kind self.now.device codec pin }
     {
         let place = place_of(self.device.codecs(), codec);
         self.kept[place].hear(pin)
@@ -137,12 +191,14 @@ impl Controller {
         ensures stands { (memory : List ℕ) (world : World) → StandsFor memory self.old world
             → StandsFor memory self.new (after_write at width value world) }
         ensures renewals { renewals_of self.new ≡ renewals_written at width (renewals_of self.old) }
-        ensures lists { (lists : List Listing) → AreHeard self.old.device.codecs lists
-            → AreHeard self.new.device.codecs lists }
+        ensures lists { (lists : List Listing) → AreHeardAs self.old.kind self.old.device.codecs lists
+            → AreHeardAs self.new.kind self.new.device.codecs lists }
+        ensures kind { self.new.kind ≡ self.old.kind }
         ensures addresses { addresses_of self.new.device.codecs ≡ addresses_of self.old.device.codecs }
     {
         self.device.write(at, width, value);
         renew_if(
+            self.kind,
             touches_sound(at, width),
             &self.device,
             self.kept.as_mut_slice(),
@@ -157,11 +213,12 @@ impl Controller {
         ensures renewals { renewals_of self.new
             ≡ renewals_handed (handed_now self.old.device.registers memory.now self.old.device.codecs)
             (renewals_of self.old) }
+        ensures kind { self.new.kind ≡ self.old.kind }
     {
         // The addresses of its codecs ascend, so that no other codec takes the command.
         let _ = self.device.codecs();
         let handed = self.device.corb(memory);
-        renew_handed(handed, &self.device, self.kept.as_mut_slice());
+        renew_handed(self.kind, handed, &self.device, self.kept.as_mut_slice());
     }
 
     /// A codec sends its first waiting item (HDA 1.0a, 4.4.2).
@@ -169,6 +226,7 @@ impl Controller {
         ensures stands { (memory : List ℕ) (world : World) → StandsFor memory self.old world
             → StandsFor memory self.new (steps.answer_step codec world) }
         ensures kept { self.new.kept ≡ self.old.kept }
+        ensures kind { self.new.kind ≡ self.old.kind }
     {
         self.device.answer(codec);
     }
@@ -178,6 +236,7 @@ impl Controller {
         ensures stands { (memory : List ℕ) (world : World) → StandsFor memory self.old world
             → StandsFor memory self.new (steps.lose_step codec world) }
         ensures kept { self.new.kept ≡ self.old.kept }
+        ensures kind { self.new.kind ≡ self.old.kind }
     {
         self.device.lose(codec);
     }
@@ -187,6 +246,7 @@ impl Controller {
         ensures stands { (memory : List ℕ) (world : World) → StandsFor memory self.old world
             → StandsFor memory self.new (steps.plugged_at codec nid present world) }
         ensures kept { self.new.kept ≡ self.old.kept }
+        ensures kind { self.new.kind ≡ self.old.kind }
     {
         self.device.plug(codec, nid, present);
     }
@@ -196,6 +256,7 @@ impl Controller {
         ensures stands { (world : World) → StandsFor memory.old self.old world
             → StandsFor memory.new self.new (steps.rirb_step world) }
         ensures kept { self.new.kept ≡ self.old.kept }
+        ensures kind { self.new.kind ≡ self.old.kind }
     {
         self.device.rirb(memory);
     }
@@ -205,6 +266,7 @@ impl Controller {
         ensures stands { (world : World) → StandsFor memory.now self.old world
             → StandsFor memory.now self.new (steps.fetch_step stream most world) }
         ensures kept { self.new.kept ≡ self.old.kept }
+        ensures kind { self.new.kind ≡ self.old.kind }
     {
         self.device.fetch(memory, stream, most);
     }
@@ -217,6 +279,7 @@ impl Controller {
         ensures answer { (memory : List ℕ) (world : World) → StandsFor memory self.old world
             → IsAnswer (output_of world) (found_at 1 world.registers world.output) into.old into.new result }
         ensures kept { self.new.kept ≡ self.old.kept }
+        ensures kind { self.new.kind ≡ self.old.kind }
         ensures codecs { self.new.device.codecs ≡ self.old.device.codecs }
         ensures sound { KeepsSound self.old.device.registers self.new.device.registers }
     {
@@ -228,14 +291,15 @@ impl Controller {
     /// frame carries, and each frame that misses its blocks: it has room for four items a link frame. Takes no memory.
     pub fn step(&mut self, memory: &mut [u8], step: &Step, heard: &mut HeardLists)
         requires room { HasRoom (most_items step.now) heard.old }
-        requires lists { AreHeard self.old.device.codecs heard.old }
+        requires lists { AreHeardAs self.old.kind self.old.device.codecs heard.old }
         ensures stands { (world : World) → StandsFor memory.old self.old world
             → StandsFor memory.new self.new (steps.after_step step.now world) }
         ensures heard { (world : World) → StandsFor memory.old self.old world
-            → Grew world (steps.after_step step.now world) heard.old heard.new }
+            → GrewAs self.old.kind world (steps.after_step step.now world) heard.old heard.new }
         ensures room { (more : ℕ) → HasRoom (most_items step.now + more) heard.old → HasRoom more heard.new }
-        ensures lists { AreHeard self.new.device.codecs heard.new }
+        ensures lists { AreHeardAs self.new.kind self.new.device.codecs heard.new }
         ensures renewals { renewals_of self.new ≡ renewals_stepped step.now memory.old self.old }
+        ensures kind { self.new.kind ≡ self.old.kind }
         ensures addresses { addresses_of self.new.device.codecs ≡ addresses_of self.old.device.codecs }
     {
         // The controller stands for some world, so its codecs stay, and its lists those of candidate pins.
@@ -246,13 +310,14 @@ impl Controller {
     /// Makes the step.
     fn make(&mut self, memory: &mut [u8], step: &Step, heard: &mut HeardLists)
         requires room { HasRoom (most_items step.now) heard.old }
-        requires lists { AreHeard self.old.device.codecs heard.old }
+        requires lists { AreHeardAs self.old.kind self.old.device.codecs heard.old }
         ensures stands { (world : World) → StandsFor memory.old self.old world
             → StandsFor memory.new self.new (steps.after_step step.now world) }
         ensures heard { (world : World) → StandsFor memory.old self.old world
-            → Grew world (steps.after_step step.now world) heard.old heard.new }
+            → GrewAs self.old.kind world (steps.after_step step.now world) heard.old heard.new }
         ensures room { (more : ℕ) → HasRoom (most_items step.now + more) heard.old → HasRoom more heard.new }
         ensures renewals { renewals_of self.new ≡ renewals_stepped step.now memory.old self.old }
+        ensures kind { self.new.kind ≡ self.old.kind }
     {
         match *step {
             Step::Corb => self.corb(memory),
@@ -268,9 +333,10 @@ impl Controller {
 }
 
 impl Sounds for Controller {
-    ghost signal_of = { λ controller. signal_now controller.device };
+    ghost signal_of = { λ controller. signal_now controller.kind controller.device };
 
-    ghost IsKnown = { λ controller codec pin. is_candidate_of controller.device.codecs codec pin ≡ true };
+    ghost IsKnown = { λ controller codec pin. is_candidate_of_kind controller.kind controller.device.codecs codec pin
+        ≡ true };
 
     fn signal(&self, codec: u8, pin: u8) -> Signal {
         self.signal_at(codec, pin)

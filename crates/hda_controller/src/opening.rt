@@ -10,7 +10,7 @@ use codec_nodes::Codec;
 use codec_sound::Kept;
 use hda_files::{self, CodecFile, Machine};
 use hda_registers::{RingSize, Shape};
-use route_planner::order;
+use route_planner::{PinKind, order_as};
 use std::alloc::{AllocError, Global};
 use stream_format::Format;
 
@@ -39,13 +39,14 @@ pub(crate) fn codecs_of(alloc: Global, files: &[CodecFile]) -> Result<Vec<Codec>
     Ok(codecs)
 }
 
-/// The signals of a codec's candidate pins, while no stream has a tag or a format.
-fn signals_of(alloc: Global, file: &CodecFile) -> Result<Kept, AllocError>
-    ensures { IfOk result (spec.IsFresh (spec.codec_in file.now)) }
+/// The signals of a codec's candidate pins of the kind, while no stream has a tag or a format.
+fn signals_of(alloc: Global, kind: PinKind, file: &CodecFile) -> Result<Kept, AllocError>
+    ensures { IfOk result (spec.IsFresh kind (spec.codec_in file.now)) }
 {
-    let pins = order(alloc, &file.graph)?;
-    Kept::new(
+    let pins = order_as(alloc, kind, &file.graph)?;
+    Kept::new_as(
         alloc,
+        kind,
         &file.graph,
         &file.settings,
         pins,
@@ -55,12 +56,16 @@ fn signals_of(alloc: Global, file: &CodecFile) -> Result<Kept, AllocError>
 }
 
 /// Those of each codec.
-pub(crate) fn all_signals_of(alloc: Global, files: &[CodecFile]) -> Result<Vec<Kept>, AllocError>
-    ensures { IfOk result (λ kept. spec.AreFresh (spec.codecs_in files.now) kept.items) }
+pub(crate) fn all_signals_of(
+    alloc: Global,
+    kind: PinKind,
+    files: &[CodecFile],
+) -> Result<Vec<Kept>, AllocError>
+    ensures { IfOk result (λ kept. spec.AreFresh kind (spec.codecs_in files.now) kept.items) }
 {
     let mut kept = Vec::new(alloc);
     for file in files {
-        kept.push(signals_of(alloc, file)?)?;
+        kept.push(signals_of(alloc, kind, file)?)?;
     }
     Ok(kept)
 }

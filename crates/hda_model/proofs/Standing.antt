@@ -1,4 +1,6 @@
 -- For which world a model stands, move by move.
+use Rattle.route_planner.specs.declared.pin_kind.PinKind.{PinKind}
+use Rattle.route_planner.specs.declared.pin_kind.PinKind.TheVariants.{Analog}
 use Rattle.std.proofs.Common.{◌≡◌, ◌≤◌, ◌<◌, ◌+◌, ℕ, List, ◌++◌, length, map, drop, get_or, refl, sym, ap, subst, ◌∙◌, arith, length-append}
 use Rattle.std.specs.Prelude.{All, OnErr, Result, Ok, Err}
 use Rattle.std.proofs.lemmas.List.{length-map, get_or-map, drop-append-le}
@@ -18,7 +20,7 @@ use Rattle.hda_world.proofs.Callers.{access_leaves}
 use Rattle.heard_lists.specs.declared.pin_list.PinHeard.{PinHeard}
 use Rattle.heard_lists.specs.Listings.{Listing, AreListsOf, AreEmpty, grown, graphs_in, handed_out, with_items, forgotten, pins_of}
 use Rattle.hda_controller.specs.Controllers.{ControllerState, StandsFor}
-use Rattle.hda_controller.specs.Hearing.{Grew}
+use Rattle.hda_controller.specs.Hearing.{Grew, GrewAs}
 use Rattle.hda_controller.specs.Openings.{opening_world}
 use Rattle.hda_model.specs.Models.{ModelState, StandsSince, AreHeardSince, SomeWorld, IsOpened, IsWritten, IsStepped, IsForgotten, with_memory, names_of, emptied}
 use Rattle.hda_model.specs.Keeping.{seen}
@@ -86,7 +88,7 @@ heard_more : (codec nid from : ℕ) (carried added : List CarriedFrame) (list : 
     → list ++ heard codec nid added ≡ heard codec nid (drop from (carried ++ added))
 heard_more codec nid from carried added list within is =
     ap (λ (items : List Heard). items ++ heard codec nid added) is
-    ∙ (sym (heard-append codec nid (drop from carried) added) ∙ ap (heard codec nid) (sym (drop-append-le from carried added within)))
+    ∙ (sym (heard-append Analog codec nid (drop from carried) added) ∙ ap (heard codec nid) (sym (drop-append-le from carried added within)))
 
 abbrev with_frames : List CarriedFrame → Listing → PinHeard
 with_frames added listing = handed_out (with_items (heard listing.codec listing.pin added) listing)
@@ -129,13 +131,16 @@ names_since world next before reserved after same grew =
 
 pub stepped : (step : Step) (old new : List ℕ) (controller next : ControllerState) (before reserved after : List Listing) → map handed_out reserved ≡ map handed_out before
     → ((world : World) → StandsFor old controller world → StandsFor new next (after_step step world))
-    → ((world : World) → StandsFor old controller world → Grew world (after_step step world) reserved after)
+    → ((world : World) → StandsFor old controller world → GrewAs controller.kind world (after_step step world) reserved after) → controller.kind ≡ Analog
     → SomeWorld old (seen controller before) → IsStepped step old new (seen controller before) (seen next after)
-stepped step old new controller next before reserved after same stands grew some = record {
-  stands = λ from world is.
-      stepped_since old new controller before reserved after next from world (after_step step world) same (stands world is.stands) (grew world is.stands) is;
-  names = names_since some.1 (after_step step some.1) before reserved after same (grew some.1 some.2.stands);
-}
+stepped step old new controller next before reserved after same stands grew kind some =
+    let heard : (world : World) → StandsFor old controller world → Grew world (after_step step world) reserved after =
+    λ world is. subst (λ (pins : PinKind). GrewAs pins world (after_step step world) reserved after) kind (grew world is) in
+    record {
+      stands = λ from world is.
+          stepped_since old new controller before reserved after next from world (after_step step world) same (stands world is.stands) (heard world is.stands) is;
+      names = names_since some.1 (after_step step some.1) before reserved after same (heard some.1 some.2.stands);
+    }
 
 pub some_stepped : (step : Step) (old new : List ℕ) (before after : ModelState) → IsStepped step old new before after
     → ((memory : List ℕ) → SomeWorld memory before) → (memory : List ℕ) → SomeWorld memory after

@@ -16,7 +16,7 @@ use Rattle.route_planner.specs.Plans.{IsOutcome, IsPlan}
 use Rattle.driver_agenda.specs.Planned.{is_route}
 use Rattle.codec_walk.specs.Commands.{walk_commands}
 use Rattle.setup_verbs.specs.Roles.{role_of}
-use Rattle.setup_verbs.specs.VerbList.{setup_verbs, to_all}
+use Rattle.setup_verbs.specs.VerbList.{setup_verbs, setup_verbs_as, to_all}
 use Rattle.laws_start.specs.Tasks.{HavePlans}
 use Rattle.program_runs.specs.Histories.{command_total}
 use Rattle.made_inputs.specs.MadeMachine.{made_codec, made_machine}
@@ -122,7 +122,7 @@ pins_are (entry ∷ other ∷ entries) plan =
 -- ---- so many commands
 
 count_with : (pair : ℕ) → command_total made_format made_machine (record { pins = entry_with pair ∷ [] } ∷ []) ≡ 44
-unfolding walk_commands role_of setup_verbs to_all
+unfolding walk_commands role_of setup_verbs_as to_all
 count_with pair = refl
 
 pub commands_are : (plans : List Plan) → HavePlans made_format made_machine.codecs plans → command_total made_format made_machine plans ≡ 44

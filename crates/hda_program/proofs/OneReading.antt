@@ -2,6 +2,7 @@
 use Rattle.std.proofs.Common.{◌≡◌, ◌≢◌, ◌∙◌, ℕ, List, [], ◌∷◌, inl, inr, Some, Ok, Err, refl, sym, ap, subst, length, arith}
 use Rattle.stream_format.specs.declared.format.Format.{Format}
 use Rattle.stream_format.specs.Layouts.{layout}
+use Rattle.route_planner.specs.declared.pin_kind.PinKind.TheVariants.{Analog}
 use Rattle.route_planner.specs.declared.routes.Plan.{Plan}
 use Rattle.route_planner.proofs.Callers.{only_plan}
 use Rattle.hda_outside.specs.Shelf.{Files, file_of}
@@ -110,5 +111,5 @@ one_plans format [] (plan ∷ ones) other h k = absurd h
 one_plans format (file ∷ codecs) [] other h k = absurd h
 one_plans format (file ∷ codecs) (plan ∷ ones) [] h k = absurd k
 one_plans format (file ∷ codecs) (plan ∷ ones) (twin ∷ others) h k =
-    let first : twin ≡ plan = only_plan file.graph format plan h.0 twin k.0 in
+    let first : twin ≡ plan = only_plan Analog file.graph format plan h.0 twin k.0 in
     let rest : others ≡ ones = one_plans format codecs ones others h.1 k.1 in cc

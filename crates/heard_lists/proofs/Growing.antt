@@ -15,11 +15,12 @@ use Rattle.hda_world.specs.Worlds.{CarriedFrame}
 use Rattle.codec_sound.specs.declared.signals.Signal.{Signal}
 use Rattle.codec_sound.specs.declared.heard.Heard.{Heard}
 use Rattle.codec_sound.specs.declared.heard.Heard.TheVariants.{Hole}
-use Rattle.codec_sound.specs.HeardLists.{signal_in, heard_in, frame_items, block_at, block_size, item_of, heard}
+use Rattle.codec_sound.specs.HeardLists.{signal_in_as, heard_in, frame_items_as, block_at, block_size, item_of, heard_as}
 use Rattle.codec_sound.proofs.Callers.{heard-append, items-missed, items-empty}
-use Rattle.route_planner.specs.Order.{IsOrder}
-use Rattle.heard_lists.specs.Listings.{HasRoom, with_blocks, Listing, AreListsOf, AreEmpty, places_of, places_in, is_of}
-use Rattle.heard_lists.specs.Listings.{pins_of, empty_lists, with_items, items_before, grown}
+use Rattle.route_planner.specs.declared.pin_kind.PinKind.{PinKind}
+use Rattle.route_planner.specs.Order.{IsOrderAs}
+use Rattle.heard_lists.specs.Listings.{HasRoom, with_blocks, Listing, AreListsAs, AreEmpty, places_of, places_in, is_of}
+use Rattle.heard_lists.specs.Listings.{pins_of, empty_lists, with_items, items_before, grown_as}
 
 -- ---- one list
 
@@ -83,25 +84,25 @@ piece_of place size = let e : (place + 1) * size ≡ place * size + size = suc_t
 
 -- ---- the lists of codecs
 
-places-push : (graphs : List RawCodec) (orders : List (List ℕ)) (graph : RawCodec) (pins : List ℕ)
-    → AllZip IsOrder graphs orders
+places-push : (kind : PinKind) (graphs : List RawCodec) (orders : List (List ℕ)) (graph : RawCodec) (pins : List ℕ)
+    → AllZip (IsOrderAs kind) graphs orders
     → places_in (graphs ++ graph ∷ []) (orders ++ pins ∷ []) ≡ places_in graphs orders ++ places_of graph.address pins
-places-push [] [] graph pins h = append-nil (places_of graph.address pins)
-places-push [] (first ∷ orders) graph pins h = absurd h
-places-push (first ∷ graphs) [] graph pins h = absurd h
-places-push (first ∷ graphs) (order ∷ orders) graph pins h =
-    ap (λ (rest : List (ℕ × ℕ)). places_of first.address order ++ rest) (places-push graphs orders graph pins h.1)
+places-push kind [] [] graph pins h = append-nil (places_of graph.address pins)
+places-push kind [] (first ∷ orders) graph pins h = absurd h
+places-push kind (first ∷ graphs) [] graph pins h = absurd h
+places-push kind (first ∷ graphs) (order ∷ orders) graph pins h =
+    ap (λ (rest : List (ℕ × ℕ)). places_of first.address order ++ rest) (places-push kind graphs orders graph pins h.1)
     ∙ sym (append_assoc (places_of first.address order) (places_in graphs orders) (places_of graph.address pins))
 
-ordered-push : (graphs : List RawCodec) (orders : List (List ℕ)) (graph : RawCodec) (pins : List ℕ)
-    → AllZip IsOrder graphs orders → IsOrder graph pins
-    → AllZip IsOrder (graphs ++ graph ∷ []) (orders ++ pins ∷ [])
-ordered-push [] [] graph pins h order = (order, tt)
-ordered-push [] (first ∷ orders) graph pins h order = absurd h
-ordered-push (first ∷ graphs) [] graph pins h order = absurd h
-ordered-push (first ∷ graphs) (other ∷ orders) graph pins h order = (
+ordered-push : (kind : PinKind) (graphs : List RawCodec) (orders : List (List ℕ)) (graph : RawCodec) (pins : List ℕ)
+    → AllZip (IsOrderAs kind) graphs orders → IsOrderAs kind graph pins
+    → AllZip (IsOrderAs kind) (graphs ++ graph ∷ []) (orders ++ pins ∷ [])
+ordered-push kind [] [] graph pins h order = (order, tt)
+ordered-push kind [] (first ∷ orders) graph pins h order = absurd h
+ordered-push kind (first ∷ graphs) [] graph pins h order = absurd h
+ordered-push kind (first ∷ graphs) (other ∷ orders) graph pins h order = (
   h.0,
-  ordered-push graphs orders graph pins h.1
+  ordered-push kind graphs orders graph pins h.1
       order,
 )
 
@@ -109,41 +110,41 @@ pins-empty : (address : ℕ) (pins : List ℕ) → pins_of (empty_lists address 
 pins-empty address [] = refl
 pins-empty address (pin ∷ pins) = ap (λ (rest : List (ℕ × ℕ)). (address, pin) ∷ rest) (pins-empty address pins)
 
-pub AreListsOf-push : (graphs : List RawCodec) (lists : List Listing) (graph : RawCodec) (pins : List ℕ)
-    → AreListsOf graphs lists → IsOrder graph pins
-    → AreListsOf (graphs ++ graph ∷ []) (lists ++ empty_lists graph.address pins)
-AreListsOf-push graphs lists graph pins are order = record {
+pub AreListsAs-push : (kind : PinKind) (graphs : List RawCodec) (lists : List Listing) (graph : RawCodec) (pins : List ℕ)
+    → AreListsAs kind graphs lists → IsOrderAs kind graph pins
+    → AreListsAs kind (graphs ++ graph ∷ []) (lists ++ empty_lists graph.address pins)
+AreListsAs-push kind graphs lists graph pins are order = record {
   orders = are.orders ++ pins ∷ [];
-  ordered = ordered-push graphs are.orders graph pins are.ordered order;
+  ordered = ordered-push kind graphs are.orders graph pins are.ordered order;
   pins = map-append (λ (listing : Listing). (listing.codec, listing.pin)) lists (empty_lists graph.address pins)
       ∙ (ap (λ (front : List (ℕ × ℕ)). front ++ pins_of (empty_lists graph.address pins)) are.pins
       ∙ (ap (λ (back : List (ℕ × ℕ)). places_in graphs are.orders ++ back) (pins-empty graph.address pins)
-      ∙ sym (places-push graphs are.orders graph pins are.ordered)));
+      ∙ sym (places-push kind graphs are.orders graph pins are.ordered)));
 }
 
-pub AreListsOf-none : AreListsOf [] []
-AreListsOf-none = record { orders = []; ordered = tt; pins = refl }
+pub AreListsAs-none : (kind : PinKind) → AreListsAs kind [] []
+AreListsAs-none kind = record { orders = []; ordered = tt; pins = refl }
 
 -- ---- frames in turn
 
-pub grown-append : (first second : List CarriedFrame) (lists : List Listing)
-    → grown second (grown first lists) ≡ grown (first ++ second) lists
-grown-append first second [] = refl
-grown-append first second (listing ∷ lists) =
-    let one : with_items (heard listing.codec listing.pin second) (with_items (heard listing.codec listing.pin first)
-    listing) ≡ with_items (heard listing.codec listing.pin (first ++ second)) listing =
-    with_both listing (heard listing.codec listing.pin first) (heard listing.codec listing.pin second)
-    ∙ ap (λ (items : List Heard). with_items items listing) (sym (heard-append listing.codec listing.pin first second))
+pub grown-append : (kind : PinKind) (first second : List CarriedFrame) (lists : List Listing)
+    → grown_as kind second (grown_as kind first lists) ≡ grown_as kind (first ++ second) lists
+grown-append kind first second [] = refl
+grown-append kind first second (listing ∷ lists) =
+    let one : with_items (heard_as kind listing.codec listing.pin second) (with_items (heard_as kind listing.codec listing.pin first)
+    listing) ≡ with_items (heard_as kind listing.codec listing.pin (first ++ second)) listing =
+    with_both listing (heard_as kind listing.codec listing.pin first) (heard_as kind listing.codec listing.pin second)
+    ∙ ap (λ (items : List Heard). with_items items listing) (sym (heard-append kind listing.codec listing.pin first second))
     in
-    ap (λ (l : Listing). l ∷ grown second (grown first lists)) one
-    ∙ ap (λ (rest : List Listing). with_items (heard listing.codec listing.pin (first ++ second)) listing ∷ rest)
-    (grown-append first second lists)
+    ap (λ (l : Listing). l ∷ grown_as kind second (grown_as kind first lists)) one
+    ∙ ap (λ (rest : List Listing). with_items (heard_as kind listing.codec listing.pin (first ++ second)) listing ∷ rest)
+    (grown-append kind first second lists)
 
-pub grown-none : (lists : List Listing) → grown [] lists ≡ lists
-grown-none [] = refl
-grown-none (listing ∷ lists) =
-    ap (λ (l : Listing). l ∷ grown [] lists) (with_none listing) ∙ ap (λ (rest : List Listing). listing ∷ rest)
-    (grown-none lists)
+pub grown-none : (kind : PinKind) (lists : List Listing) → grown_as kind [] lists ≡ lists
+grown-none kind [] = refl
+grown-none kind (listing ∷ lists) =
+    ap (λ (l : Listing). l ∷ grown_as kind [] lists) (with_none listing) ∙ ap (λ (rest : List Listing). listing ∷ rest)
+    (grown-none kind lists)
 
 -- ---- loops over lists
 
@@ -201,38 +202,38 @@ room-kept lists i more new inside no_less holds k d within = by_place (nat_eq k 
 
 -- ---- one frame
 
-heard-one : (codec pin : ℕ) (frame : CarriedFrame) → heard codec pin (frame ∷ []) ≡ frame_items codec pin frame
-heard-one codec pin frame = append-nil (frame_items codec pin frame)
+heard-one : (kind : PinKind) (codec pin : ℕ) (frame : CarriedFrame) → heard_as kind codec pin (frame ∷ []) ≡ frame_items_as kind codec pin frame
+heard-one kind codec pin frame = append-nil (frame_items_as kind codec pin frame)
 
 -- what each list gains by a frame
-grown-by : (items : Listing → List Heard) (frame : CarriedFrame) (lists : List Listing)
-    → ((listing : Listing) → frame_items listing.codec listing.pin frame ≡ items listing)
-    → map (λ (listing : Listing). with_items (items listing) listing) lists ≡ grown (frame ∷ []) lists
-grown-by items frame [] same = refl
-grown-by items frame (listing ∷ lists) same =
+grown-by : (kind : PinKind) (items : Listing → List Heard) (frame : CarriedFrame) (lists : List Listing)
+    → ((listing : Listing) → frame_items_as kind listing.codec listing.pin frame ≡ items listing)
+    → map (λ (listing : Listing). with_items (items listing) listing) lists ≡ grown_as kind (frame ∷ []) lists
+grown-by kind items frame [] same = refl
+grown-by kind items frame (listing ∷ lists) same =
     ap (λ (l : Listing). l ∷ map (λ (listing : Listing). with_items (items listing) listing) lists)
-    (ap (λ (i : List Heard). with_items i listing) (sym (heard-one listing.codec listing.pin frame ∙ same listing)))
-    ∙ ap (λ (rest : List Listing). with_items (heard listing.codec listing.pin (frame ∷ [])) listing ∷ rest)
-    (grown-by items frame lists same)
+    (ap (λ (i : List Heard). with_items i listing) (sym (heard-one kind listing.codec listing.pin frame ∙ same listing)))
+    ∙ ap (λ (rest : List Listing). with_items (heard_as kind listing.codec listing.pin (frame ∷ [])) listing ∷ rest)
+    (grown-by kind items frame lists same)
 
-pub blocks-grow : (frame : CarriedFrame) (layout : Layout) (bytes : List ℕ) (lists : List Listing)
+pub blocks-grow : (kind : PinKind) (frame : CarriedFrame) (layout : Layout) (bytes : List ℕ) (lists : List Listing)
     → layout_of frame.format ≡ Some layout → frame.carriage ≡ Sent bytes
-    → map (with_blocks (λ codec pin. signal_in codec pin frame) layout bytes) lists ≡ grown (frame ∷ []) lists
-blocks-grow frame layout bytes lists reading carried =
-    grown-by (λ listing. heard_in (Some layout) (signal_in listing.codec listing.pin frame) (Sent bytes)) frame lists
-    (λ listing. ap (λ (found : Option Layout). heard_in found (signal_in listing.codec listing.pin frame)
+    → map (with_blocks (λ codec pin. signal_in_as kind codec pin frame) layout bytes) lists ≡ grown_as kind (frame ∷ []) lists
+blocks-grow kind frame layout bytes lists reading carried =
+    grown-by kind (λ listing. heard_in (Some layout) (signal_in_as kind listing.codec listing.pin frame) (Sent bytes)) frame lists
+    (λ listing. ap (λ (found : Option Layout). heard_in found (signal_in_as kind listing.codec listing.pin frame)
     frame.carriage) reading
-    ∙ ap (heard_in (Some layout) (signal_in listing.codec listing.pin frame)) carried)
+    ∙ ap (heard_in (Some layout) (signal_in_as kind listing.codec listing.pin frame)) carried)
 
-pub hole-grows : (frame : CarriedFrame) (lists : List Listing) → frame.carriage ≡ Missed
-    → map (with_items (Hole ∷ [])) lists ≡ grown (frame ∷ []) lists
-hole-grows frame lists missed = grown-by (λ listing. Hole ∷ []) frame lists
-    (λ listing. items-missed listing.codec listing.pin frame missed)
+pub hole-grows : (kind : PinKind) (frame : CarriedFrame) (lists : List Listing) → frame.carriage ≡ Missed
+    → map (with_items (Hole ∷ [])) lists ≡ grown_as kind (frame ∷ []) lists
+hole-grows kind frame lists missed = grown-by kind (λ listing. Hole ∷ []) frame lists
+    (λ listing. items-missed kind listing.codec listing.pin frame missed)
 
-pub gap-grows : (frame : CarriedFrame) (lists : List Listing) → frame.carriage ≡ Sent []
-    → lists ≡ grown (frame ∷ []) lists
-gap-grows frame lists none = sym (grown-nothing lists) ∙ grown-by (λ listing. []) frame lists
-    (λ listing. items-empty listing.codec listing.pin frame none)
+pub gap-grows : (kind : PinKind) (frame : CarriedFrame) (lists : List Listing) → frame.carriage ≡ Sent []
+    → lists ≡ grown_as kind (frame ∷ []) lists
+gap-grows kind frame lists none = sym (grown-nothing lists) ∙ grown-by kind (λ listing. []) frame lists
+    (λ listing. items-empty kind listing.codec listing.pin frame none)
   where
     grown-nothing : (lists : List Listing) → map (λ (listing : Listing). with_items [] listing) lists ≡ lists
     grown-nothing [] = refl

@@ -13,7 +13,9 @@ mod sounds;
 mod stretches;
 
 pub use heard_pins::HeardPins;
-pub use laws::{frames_grow_lists, lists_grow_on};
+pub use laws::{
+    frames_grow_lists, frames_grow_lists_of_each_kind, lists_grow_on, lists_of_each_kind_grow_on,
+};
 pub use lists::HeardLists;
 pub use pin_list::PinHeard;
 pub use reader::HeardReader;

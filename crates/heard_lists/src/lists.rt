@@ -7,7 +7,9 @@ ghost use Rattle.codec_sound.specs.declared.signals.Signal.TheVariants.{Silence}
 ghost use Rattle.stream_format.specs.Cadence.{block_bytes};
 ghost use Rattle.stream_format.specs.Layouts.{layout};
 ghost use Rattle.codec_sound.specs.Signals.{IsAmong};
-ghost use Rattle.heard_lists.specs.Listings.{Listing, forgotten, with_blocks, HasRoom, AreListsOf, AreEmpty};
+ghost use Rattle.route_planner.specs.declared.pin_kind.PinKind.TheVariants as pin_kind;
+ghost use Rattle.heard_lists.specs.Listings.{Listing, forgotten, with_blocks, HasRoom, AreListsAs, AreListsOf};
+ghost use Rattle.heard_lists.specs.Listings.{AreEmpty};
 ghost use Rattle.heard_lists.specs.Listings.{graphs_in, pins_of, handed_out, list_of, with_items};
 ghost use Rattle.heard_lists.specs.declared.pieces.Piece.{Piece};
 ghost use Rattle.heard_lists.specs.Pieces.{signalled, pieces_items, pieces_size, empty_pins, without_room, HaveRoom};
@@ -23,7 +25,7 @@ use crate::stretches::{Stretch, put_pieces};
 use codec_sound::{Heard, Signal};
 use hda_files::Machine;
 use hda_items::{extend_within_capacity, push_within_capacity};
-use route_planner::order;
+use route_planner::{PinKind, order_as};
 use std::alloc::{AllocError, AllocFailed, Global};
 use std::marker::Model;
 use stream_format::{Bits, Format};
@@ -75,9 +77,35 @@ impl HeardLists {
         ensures pins { IfOk result (λ lists. AreListsOf (graphs_in machine.now.codecs) lists) }
         ensures empty { IfOk result AreEmpty }
     {
+        HeardLists::of_kind(alloc, PinKind::Analog, machine)
+    }
+
+    /// An empty list for each digital candidate pin, in the same order: for what they hear as digital pins.
+    ///
+    /// # Errors
+    /// Want of memory.
+    pub fn digital(alloc: Global, machine: &Machine) -> Result<HeardLists, AllocError>
+        ensures pins { IfOk result (λ lists. AreListsAs pin_kind.Digital (graphs_in machine.now.codecs) lists) }
+        ensures empty { IfOk result AreEmpty }
+    {
+        HeardLists::of_kind(alloc, PinKind::Digital, machine)
+    }
+
+    /// An empty list for each candidate pin of the kind, in the same order.
+    ///
+    /// # Errors
+    /// Want of memory.
+    pub fn of_kind(
+        alloc: Global,
+        kind: PinKind,
+        machine: &Machine,
+    ) -> Result<HeardLists, AllocError>
+        ensures pins { IfOk result (λ lists. AreListsAs kind (graphs_in machine.now.codecs) lists) }
+        ensures empty { IfOk result AreEmpty }
+    {
         let mut lists = Vec::new(alloc);
         for codec in machine.codecs.as_slice() {
-            let pins = order(alloc, &codec.graph)?;
+            let pins = order_as(alloc, kind, &codec.graph)?;
             add_lists(&mut lists, codec.graph.raw().address, pins.as_slice())?;
         }
         Ok(HeardLists {

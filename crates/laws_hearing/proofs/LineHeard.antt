@@ -5,6 +5,7 @@ use Rattle.std.specs.List.{range_with_len}
 use Rattle.std.proofs.lemmas.List.FromFn.{length-range_with_len}
 use Rattle.std.proofs.lemmas.List.{length-map, length-take-le, length-replicate, get_or_append_left, get_or-append_right, get_or-replicate}
 use Rattle.std.proofs.lemmas.List.Elements.{All-append, All-cons, All-head, All-nil, All-tail}
+use Rattle.route_planner.specs.declared.pin_kind.PinKind.{PinKind}
 use Rattle.codec_graph.specs.CodecStates.{CodecState}
 use Rattle.stream_format.specs.Layouts.{Layout, layout_of}
 use Rattle.world_streams.specs.Output.{Carriage, Sent, Missed}
@@ -15,7 +16,7 @@ use Rattle.codec_sound.specs.declared.signals.Signal.{Signal}
 use Rattle.codec_sound.specs.declared.signals.Signal.TheVariants.{Pair}
 use Rattle.codec_sound.specs.declared.heard.Heard.{Heard}
 use Rattle.codec_sound.specs.declared.heard.Heard.TheVariants.{Hole}
-use Rattle.codec_sound.specs.HeardLists.{block_size, blocks, item_of, heard_in, signal_with, frame_items, heard}
+use Rattle.codec_sound.specs.HeardLists.{block_size, blocks, item_of, heard_in, signal_with_as, frame_items_as, heard_as}
 use Rattle.period_writer.specs.declared.course.Ran.TheVariants as ran
 use Rattle.period_writer.specs.Runs.{Tally}
 use Rattle.period_writer.specs.Lines.{line_of}
@@ -32,18 +33,18 @@ use Rattle.laws_hearing.proofs.Playing.{plays, plays_below, sounds_of}
 pub some_of : (word : ℕ) (layout : Layout) → layout_of word ≡ Some layout → 1 ≤ block_size layout
 some_of word layout known = some_block word layout known
 
-module _ (codecs : List CodecState) (tag word : ℕ) (layout : Layout) (known : layout_of word ≡ Some layout) (some : 1 ≤ block_size layout) (from : ℕ) (world : World)
+module _ (kind : PinKind) (codecs : List CodecState) (tag word : ℕ) (layout : Layout) (known : layout_of word ≡ Some layout) (some : 1 ≤ block_size layout) (from : ℕ) (world : World)
     (steady : Steady codecs tag word (block_size layout) from world) (sent : HasSent from world) (address pin : ℕ) where
   abbrev list : List Heard
-  list = heard address pin (drop from world.carried)
+  list = heard_as kind address pin (drop from world.carried)
 
   -- ---- a pin that hears a pair
 
-  module _ (pair : ℕ) (is : signal_with (codec_at address codecs) tag word (Some layout) pin ≡ Pair pair) where
+  module _ (pair : ℕ) (is : signal_with_as kind (codec_at address codecs) tag word (Some layout) pin ≡ Pair pair) where
     -- it heard what was sent
     heard_is : without_holes list ≡ sounds layout pair (take world.output.left world.output.entered) (world.output.left / block_size layout)
     heard_is =
-        pair_heard codecs tag word layout known address pin pair some is (drop from world.carried) steady.frames
+        pair_heard kind codecs tag word layout known address pin pair some is (drop from world.carried) steady.frames
         ∙ ap (λ bytes. map (item_of layout (Pair pair)) (blocks (block_size layout) bytes)) sent.bytes
         ∙ sounds_of layout pair (take world.output.left world.output.entered)
         ∙ ap (λ n. sounds layout pair (take world.output.left world.output.entered) (n / block_size layout)) (length-take-le world.output.left world.output.entered sent.behind)
@@ -108,8 +109,8 @@ module _ (codecs : List CodecState) (tag word : ℕ) (layout : Layout) (known : 
 -- ---- every item of a list
 
 -- what holds of a hole and of what is heard of any block
-module _ (codecs : List CodecState) (tag word : ℕ) (layout : Layout) (known : layout_of word ≡ Some layout) (from : ℕ) (world : World) (steady : Steady codecs tag word (block_size layout) from world) (address pin : ℕ)
-    (signal : Signal) (is : signal_with (codec_at address codecs) tag word (Some layout) pin ≡ signal) (Holds : Heard → Type 0) (hole : Holds Hole) (blocks_hold : (block : List ℕ) → Holds (item_of layout signal block)) where
+module _ (kind : PinKind) (codecs : List CodecState) (tag word : ℕ) (layout : Layout) (known : layout_of word ≡ Some layout) (from : ℕ) (world : World) (steady : Steady codecs tag word (block_size layout) from world) (address pin : ℕ)
+    (signal : Signal) (is : signal_with_as kind (codec_at address codecs) tag word (Some layout) pin ≡ signal) (Holds : Heard → Type 0) (hole : Holds Hole) (blocks_hold : (block : List ℕ) → Holds (item_of layout signal block)) where
   each_item : (bs : List (List ℕ)) → All Holds (map (item_of layout signal) bs)
   each_item [] = All-nil Holds
   each_item (b ∷ bs) = All-cons Holds (item_of layout signal b) (map (item_of layout signal) bs) (blocks_hold b) (each_item bs)
@@ -118,13 +119,13 @@ module _ (codecs : List CodecState) (tag word : ℕ) (layout : Layout) (known : 
   each_carried Missed = All-cons Holds Hole [] hole (All-nil Holds)
   each_carried (Sent bytes) = each_item (blocks (block_size layout) bytes)
 
-  each_frame : (frames : List CarriedFrame) → All (IsSteadyFrame codecs tag word (block_size layout)) frames → All Holds (heard address pin frames)
+  each_frame : (frames : List CarriedFrame) → All (IsSteadyFrame codecs tag word (block_size layout)) frames → All Holds (heard_as kind address pin frames)
   each_frame [] all = All-nil Holds
   each_frame (frame ∷ frames) all =
       let here = All-head (IsSteadyFrame codecs tag word (block_size layout)) frame frames all in
-      All-append Holds (frame_items address pin frame) (heard address pin frames)
-      (subst (All Holds) (sym (frame_is codecs tag word layout known address pin signal frame here is)) (each_carried frame.carriage))
+      All-append Holds (frame_items_as kind address pin frame) (heard_as kind address pin frames)
+      (subst (All Holds) (sym (frame_is kind codecs tag word layout known address pin signal frame here is)) (each_carried frame.carriage))
       (each_frame frames (All-tail (IsSteadyFrame codecs tag word (block_size layout)) frame frames all))
 
-  pub each_heard : All Holds (heard address pin (drop from world.carried))
+  pub each_heard : All Holds (heard_as kind address pin (drop from world.carried))
   each_heard = each_frame (drop from world.carried) steady.frames

@@ -1,6 +1,7 @@
 //! Laws of what is heard, each the contract of a function that does nothing.
 ghost use Rattle.std.specs.Prelude.{◌≡◌, ◌≤◌, ◌+◌, ◌*◌, ◌/◌, ◌++◌, ℕ, List, Some, All, length, drop};
 ghost use Rattle.codec_graph.specs.CodecStates.{CodecState};
+ghost use Rattle.route_planner.specs.declared.pin_kind.PinKind.{PinKind};
 ghost use Rattle.world_steps.specs.declared.Step.{Step};
 ghost use Rattle.hda_world.specs.Worlds.{World, codec_at};
 ghost use Rattle.hda_world.specs.Steps.{after_steps};
@@ -11,7 +12,7 @@ ghost use Rattle.stream_format.specs.Words.{format_word};
 ghost use Rattle.world_streams.specs.Streams.{begun};
 ghost use Rattle.codec_sound.specs.declared.signals.Signal.TheVariants.{Pair, Silence};
 ghost use Rattle.codec_sound.specs.declared.heard.Heard.{Heard};
-ghost use Rattle.codec_sound.specs.HeardLists.{block_size, signal_with, heard};
+ghost use Rattle.codec_sound.specs.HeardLists.{block_size, signal_with_as, heard_as};
 ghost use Rattle.period_writer.specs.declared.course.Ran.TheVariants as ran;
 ghost use Rattle.period_writer.specs.Runs.{Tally};
 ghost use Rattle.period_writer.specs.Lines.{line_of};
@@ -57,55 +58,62 @@ pub fn a_started_stream_is_steady()
     ensures sent { (world : World) → world.output ≡ begun → HasSent (length world.carried) world }
 {}
 
-/// A pin that hears a pair of a steady stream heard, but for its holes, the pair's samples of the line that a writer
-/// plays, from its first block on, each once and in order, while no more link frames passed than the limit says. After
-/// the line drained zeros may follow it; after a stop before that, by a late run or by the last one, the list has the
-/// line below the last recorded reach.
+/// A pin that hears, as one of a kind, a pair of a steady stream heard, but for its holes, the pair's samples of the
+/// line that a writer plays, from its first block on, each once and in order, while no more link frames passed than the
+/// limit says. After the line drained zeros may follow it; after a stop before that, by a late run or by the last one,
+/// the list has the line below the last recorded reach.
 pub fn the_line_is_heard()
-    ensures playing { (codecs : List CodecState) (tag word : ℕ) (layout : Layout) (from : ℕ) (world : World)
-        (address pin pair : ℕ) (ring : Ring) (pcm : List ℕ) (tally : Tally) → layout_of word ≡ Some layout
-        → Steady codecs tag word (block_size layout) from world → HasSent from world
-        → signal_with (codec_at address codecs) tag word (Some layout) pin ≡ Pair pair → IsPlaying ring pcm tally world
-        → 500 * world.frames ≤ tally.course.from + 500 * limit_in ring
-        → Plays ran.Playing layout pair (line_of tally pcm) tally.course.sure
-        (heard address pin (drop from world.carried)) }
-    ensures drained { (codecs : List CodecState) (tag word : ℕ) (layout : Layout) (from : ℕ) (world : World)
-        (address pin pair : ℕ) (ring : Ring) (pcm : List ℕ) (tally : Tally) → layout_of word ≡ Some layout
-        → Steady codecs tag word (block_size layout) from world → HasSent from world
-        → signal_with (codec_at address codecs) tag word (Some layout) pin ≡ Pair pair → HasDrained ring pcm tally world
-        → Plays ran.Drained layout pair (line_of tally pcm) tally.course.sure
-        (heard address pin (drop from world.carried)) }
-    ensures stopped { (codecs : List CodecState) (tag word : ℕ) (layout : Layout) (from : ℕ) (world : World)
-        (address pin pair : ℕ) (ring : Ring) (pcm : List ℕ) (tally : Tally) (since to limit : ℕ)
+    ensures playing { (kind : PinKind) (codecs : List CodecState) (tag word : ℕ) (layout : Layout) (from : ℕ)
+        (world : World) (address pin pair : ℕ) (ring : Ring) (pcm : List ℕ) (tally : Tally)
         → layout_of word ≡ Some layout
         → Steady codecs tag word (block_size layout) from world → HasSent from world
-        → signal_with (codec_at address codecs) tag word (Some layout) pin ≡ Pair pair → WasStopped ring pcm tally world
+        → signal_with_as kind (codec_at address codecs) tag word (Some layout) pin ≡ Pair pair
+        → IsPlaying ring pcm tally world
+        → 500 * world.frames ≤ tally.course.from + 500 * limit_in ring
+        → Plays ran.Playing layout pair (line_of tally pcm) tally.course.sure
+        (heard_as kind address pin (drop from world.carried)) }
+    ensures drained { (kind : PinKind) (codecs : List CodecState) (tag word : ℕ) (layout : Layout) (from : ℕ)
+        (world : World) (address pin pair : ℕ) (ring : Ring) (pcm : List ℕ) (tally : Tally)
+        → layout_of word ≡ Some layout
+        → Steady codecs tag word (block_size layout) from world → HasSent from world
+        → signal_with_as kind (codec_at address codecs) tag word (Some layout) pin ≡ Pair pair
+        → HasDrained ring pcm tally world
+        → Plays ran.Drained layout pair (line_of tally pcm) tally.course.sure
+        (heard_as kind address pin (drop from world.carried)) }
+    ensures stopped { (kind : PinKind) (codecs : List CodecState) (tag word : ℕ) (layout : Layout) (from : ℕ)
+        (world : World) (address pin pair : ℕ) (ring : Ring) (pcm : List ℕ) (tally : Tally) (since to limit : ℕ)
+        → layout_of word ≡ Some layout
+        → Steady codecs tag word (block_size layout) from world → HasSent from world
+        → signal_with_as kind (codec_at address codecs) tag word (Some layout) pin ≡ Pair pair
+        → WasStopped ring pcm tally world
         → Plays (ran.Late since to limit) layout pair (line_of tally pcm) tally.course.sure
-        (heard address pin (drop from world.carried)) }
+        (heard_as kind address pin (drop from world.carried)) }
 {}
 
-/// A pin that hears a pair of a steady stream heard as many blocks as were sent.
+/// A pin that hears, as one of a kind, a pair of a steady stream heard as many blocks as were sent.
 pub fn all_that_was_sent_is_heard()
-    ensures { (codecs : List CodecState) (tag word : ℕ) (layout : Layout) (from : ℕ) (world : World)
+    ensures { (kind : PinKind) (codecs : List CodecState) (tag word : ℕ) (layout : Layout) (from : ℕ) (world : World)
         (address pin pair : ℕ) → layout_of word ≡ Some layout → Steady codecs tag word (block_size layout) from world
-        → HasSent from world → signal_with (codec_at address codecs) tag word (Some layout) pin ≡ Pair pair
-        → length (without_holes (heard address pin (drop from world.carried))) ≡ world.output.left / block_size layout }
+        → HasSent from world → signal_with_as kind (codec_at address codecs) tag word (Some layout) pin ≡ Pair pair
+        → length (without_holes (heard_as kind address pin (drop from world.carried)))
+        ≡ world.output.left / block_size layout }
 {}
 
-/// A pin that hears silence of a steady stream heard nothing but quiet blocks and holes.
+/// A pin that hears, as one of a kind, silence of a steady stream heard nothing but quiet blocks and holes.
 pub fn silent_pins_hear_nothing()
-    ensures { (codecs : List CodecState) (tag word : ℕ) (layout : Layout) (from : ℕ) (world : World) (address pin : ℕ)
+    ensures { (kind : PinKind) (codecs : List CodecState) (tag word : ℕ) (layout : Layout) (from : ℕ) (world : World)
+        (address pin : ℕ)
         → layout_of word ≡ Some layout → Steady codecs tag word (block_size layout) from world
-        → signal_with (codec_at address codecs) tag word (Some layout) pin ≡ Silence
-        → All IsSilent (heard address pin (drop from world.carried)) }
+        → signal_with_as kind (codec_at address codecs) tag word (Some layout) pin ≡ Silence
+        → All IsSilent (heard_as kind address pin (drop from world.carried)) }
 {}
 
-/// A pin that hears a pair of a steady stream heard nothing but blocks as they were sent and holes.
+/// A pin that hears, as one of a kind, a pair of a steady stream heard nothing but blocks as they were sent and holes.
 pub fn routed_pins_hear_what_was_sent()
-    ensures { (codecs : List CodecState) (tag word : ℕ) (layout : Layout) (from : ℕ) (world : World)
+    ensures { (kind : PinKind) (codecs : List CodecState) (tag word : ℕ) (layout : Layout) (from : ℕ) (world : World)
         (address pin pair : ℕ) → layout_of word ≡ Some layout → Steady codecs tag word (block_size layout) from world
-        → signal_with (codec_at address codecs) tag word (Some layout) pin ≡ Pair pair
-        → All WasSent (heard address pin (drop from world.carried)) }
+        → signal_with_as kind (codec_at address codecs) tag word (Some layout) pin ≡ Pair pair
+        → All WasSent (heard_as kind address pin (drop from world.carried)) }
 {}
 
 /// What plays of a line plays of a longer one that begins with it.

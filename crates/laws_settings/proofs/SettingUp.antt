@@ -1,4 +1,5 @@
 -- The words of commands do what the commands do, and those of the set-up verbs set a codec up.
+use Rattle.route_planner.specs.declared.pin_kind.PinKind.TheVariants.{Analog}
 use Rattle.std.proofs.Common.{◌≡◌, ◌≤◌, ℕ, List, [], ◌∷◌, ◌++◌, map, drop, Option, Some, refl, sym, ap, subst, ◌∙◌}
 use Rattle.std.specs.Prelude.{All}
 use Rattle.std.proofs.lemmas.List.Elements.{All-head, All-tail, All-weaker}
@@ -54,7 +55,7 @@ codec_set start from world first now readings commands is before after asked ran
 
 module _ (graph : RawCodec) (plan : Plan) (format : Format) (tag : ℕ) (well : IsWellFormed graph) (is : IsPlan graph format plan) (low : graph.address ≤ 14) (some : 1 ≤ tag) (few : tag ≤ 15) where
   in_range : All IsInRange (setup_verbs graph plan format tag)
-  in_range = All-weaker (IsCommandOf graph) IsInRange (λ command of. of.in_range low) (setup_verbs graph plan format tag) (all_commands_of graph plan format tag well is few)
+  in_range = All-weaker (IsCommandOf graph) IsInRange (λ command of. of.in_range low) (setup_verbs graph plan format tag) (all_commands_of Analog graph plan format tag well is few)
 
   pub set_up_by : (settings : Entries) (readings : List ℕ) → IsSettingsOf graph settings → All IsReading readings
       → IsSetUp graph (settings_by graph settings (then_set_up readings graph plan format tag)) plan format tag

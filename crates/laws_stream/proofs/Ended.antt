@@ -7,6 +7,7 @@ use Rattle.std.proofs.Math.Nat.{mod-eq_of_lt, div-mul-le_self}
 use Rattle.std.proofs.lemmas.Nat.{le-div}
 use Rattle.std.proofs.lemmas.List.Elements.{All-from_recursion}
 use Rattle.std.proofs.lemmas.Bool.{or_parts}
+use Rattle.route_planner.specs.declared.pin_kind.PinKind.{PinKind}
 use Rattle.codec_graph.specs.CodecStates.{CodecState}
 use Rattle.hda_registers.specs.declared.shapes.Width.TheVariants.{One, Four}
 use Rattle.hda_registers.specs.declared.places.TheConstants.{WALCLK}
@@ -19,7 +20,7 @@ use Rattle.stream_format.proofs.Callers.{read_back}
 use Rattle.world_streams.proofs.Callers.{some_block}
 use Rattle.codec_sound.specs.declared.signals.Signal.TheVariants.{Pair, Silence}
 use Rattle.codec_sound.specs.declared.heard.Heard.{Heard}
-use Rattle.codec_sound.specs.HeardLists.{block_size, signal_with, heard}
+use Rattle.codec_sound.specs.HeardLists.{block_size, signal_with_as, heard_as}
 use Rattle.hda_world.specs.Worlds.{World, CarriedFrame, codec_at}
 use Rattle.hda_world.specs.Events.{Event, Read, Write, happens, AreHonest, IsNoStep}
 use Rattle.hda_world.specs.Streaming.{HasSent}
@@ -61,22 +62,22 @@ use Rattle.laws_stream.proofs.Calls.{row_sounds, poll_beside}
 -- ---- the laws of what is heard
 
 pub record HearLaws : Type 0 where
-  pub playing : (codecs : List CodecState) (tag word : ℕ) (layout : Layout) (from : ℕ) (world : World) (address pin pair : ℕ) (ring : Ring) (pcm : List ℕ) (tally : Tally) → layout_of word ≡ Some layout
-      → Steady codecs tag word (block_size layout) from world → HasSent from world → signal_with (codec_at address codecs) tag word (Some layout) pin ≡ Pair pair → IsPlaying ring pcm tally world
-      → 500 * world.frames ≤ tally.course.from + 500 * limit_in ring → Plays ran.Playing layout pair (line_of tally pcm) tally.course.sure (heard address pin (drop from world.carried))
-  pub drained : (codecs : List CodecState) (tag word : ℕ) (layout : Layout) (from : ℕ) (world : World) (address pin pair : ℕ) (ring : Ring) (pcm : List ℕ) (tally : Tally) → layout_of word ≡ Some layout
-      → Steady codecs tag word (block_size layout) from world → HasSent from world → signal_with (codec_at address codecs) tag word (Some layout) pin ≡ Pair pair → HasDrained ring pcm tally world
-      → Plays ran.Drained layout pair (line_of tally pcm) tally.course.sure (heard address pin (drop from world.carried))
-  pub stopped : (codecs : List CodecState) (tag word : ℕ) (layout : Layout) (from : ℕ) (world : World) (address pin pair : ℕ) (ring : Ring) (pcm : List ℕ) (tally : Tally) (since to limit : ℕ) → layout_of word ≡ Some layout
-      → Steady codecs tag word (block_size layout) from world → HasSent from world → signal_with (codec_at address codecs) tag word (Some layout) pin ≡ Pair pair → WasStopped ring pcm tally world
-      → Plays (ran.Late since to limit) layout pair (line_of tally pcm) tally.course.sure (heard address pin (drop from world.carried))
-  pub count : (codecs : List CodecState) (tag word : ℕ) (layout : Layout) (from : ℕ) (world : World) (address pin pair : ℕ) → layout_of word ≡ Some layout → Steady codecs tag word (block_size layout) from world
-      → HasSent from world → signal_with (codec_at address codecs) tag word (Some layout) pin ≡ Pair pair → length (without_holes (heard address pin (drop from world.carried))) ≡ world.output.left / block_size layout
+  pub playing : (kind : PinKind) (codecs : List CodecState) (tag word : ℕ) (layout : Layout) (from : ℕ) (world : World) (address pin pair : ℕ) (ring : Ring) (pcm : List ℕ) (tally : Tally) → layout_of word ≡ Some layout
+      → Steady codecs tag word (block_size layout) from world → HasSent from world → signal_with_as kind (codec_at address codecs) tag word (Some layout) pin ≡ Pair pair → IsPlaying ring pcm tally world
+      → 500 * world.frames ≤ tally.course.from + 500 * limit_in ring → Plays ran.Playing layout pair (line_of tally pcm) tally.course.sure (heard_as kind address pin (drop from world.carried))
+  pub drained : (kind : PinKind) (codecs : List CodecState) (tag word : ℕ) (layout : Layout) (from : ℕ) (world : World) (address pin pair : ℕ) (ring : Ring) (pcm : List ℕ) (tally : Tally) → layout_of word ≡ Some layout
+      → Steady codecs tag word (block_size layout) from world → HasSent from world → signal_with_as kind (codec_at address codecs) tag word (Some layout) pin ≡ Pair pair → HasDrained ring pcm tally world
+      → Plays ran.Drained layout pair (line_of tally pcm) tally.course.sure (heard_as kind address pin (drop from world.carried))
+  pub stopped : (kind : PinKind) (codecs : List CodecState) (tag word : ℕ) (layout : Layout) (from : ℕ) (world : World) (address pin pair : ℕ) (ring : Ring) (pcm : List ℕ) (tally : Tally) (since to limit : ℕ) → layout_of word ≡ Some layout
+      → Steady codecs tag word (block_size layout) from world → HasSent from world → signal_with_as kind (codec_at address codecs) tag word (Some layout) pin ≡ Pair pair → WasStopped ring pcm tally world
+      → Plays (ran.Late since to limit) layout pair (line_of tally pcm) tally.course.sure (heard_as kind address pin (drop from world.carried))
+  pub count : (kind : PinKind) (codecs : List CodecState) (tag word : ℕ) (layout : Layout) (from : ℕ) (world : World) (address pin pair : ℕ) → layout_of word ≡ Some layout → Steady codecs tag word (block_size layout) from world
+      → HasSent from world → signal_with_as kind (codec_at address codecs) tag word (Some layout) pin ≡ Pair pair → length (without_holes (heard_as kind address pin (drop from world.carried))) ≡ world.output.left / block_size layout
   pub longer : (layout : Layout) (pair : ℕ) (line more : List ℕ) (list : List Heard) → PlaysFront layout pair line list → PlaysFront layout pair (line ++ more) list
-  pub sent_alone : (codecs : List CodecState) (tag word : ℕ) (layout : Layout) (from : ℕ) (world : World) (address pin pair : ℕ) → layout_of word ≡ Some layout → Steady codecs tag word (block_size layout) from world
-      → signal_with (codec_at address codecs) tag word (Some layout) pin ≡ Pair pair → All WasSent (heard address pin (drop from world.carried))
-  pub silent : (codecs : List CodecState) (tag word : ℕ) (layout : Layout) (from : ℕ) (world : World) (address pin : ℕ) → layout_of word ≡ Some layout → Steady codecs tag word (block_size layout) from world
-      → signal_with (codec_at address codecs) tag word (Some layout) pin ≡ Silence → All IsSilent (heard address pin (drop from world.carried))
+  pub sent_alone : (kind : PinKind) (codecs : List CodecState) (tag word : ℕ) (layout : Layout) (from : ℕ) (world : World) (address pin pair : ℕ) → layout_of word ≡ Some layout → Steady codecs tag word (block_size layout) from world
+      → signal_with_as kind (codec_at address codecs) tag word (Some layout) pin ≡ Pair pair → All WasSent (heard_as kind address pin (drop from world.carried))
+  pub silent : (kind : PinKind) (codecs : List CodecState) (tag word : ℕ) (layout : Layout) (from : ℕ) (world : World) (address pin : ℕ) → layout_of word ≡ Some layout → Steady codecs tag word (block_size layout) from world
+      → signal_with_as kind (codec_at address codecs) tag word (Some layout) pin ≡ Silence → All IsSilent (heard_as kind address pin (drop from world.carried))
   pub grows : (m : Measures) (runs : ℕ) (tally : Tally) (facts : RunFacts) (pcm : List ℕ) → IsCourse m.ring runs tally.course → IsLine tally
       → takes_back m tally.course facts ≡ false → line_of (tally_if false m tally facts) pcm ≡ line_of tally pcm ++ run_bytes m tally.course facts (drop tally.course.used pcm)
 
@@ -117,27 +118,27 @@ over_past (ran.Late from to limit) ring pcm tally world stream drained = absurd 
 
 module _ (laws : HearLaws) (codecs : List CodecState) (ring : Ring) (pcm : List ℕ) (tally : Tally) (world : World) (hears : IsHeardBy codecs ring world) where
   -- of a stream that was over
-  over_heard : (was : Ran) → is_open was ≡ false → StreamIs was ring pcm tally world → (address pin pair : ℕ)
-      → signal_with (codec_at address codecs) 1 (format_word ring.geometry.format) (Some (layout ring.geometry.format)) pin ≡ Pair pair
-      → Plays was (layout ring.geometry.format) pair (line_of tally pcm) tally.course.sure (heard address pin world.carried)
-  over_heard ran.Playing over stream address pin pair is = absurd (false≢true (sym over))
-  over_heard ran.Drained over stream address pin pair is =
-      laws.drained codecs 1 (format_word ring.geometry.format) (layout ring.geometry.format) 0 world address pin pair ring pcm tally (read_back ring.geometry.format) hears.steady hears.sent is stream
-  over_heard (ran.Late from to limit) over stream address pin pair is =
-      laws.stopped codecs 1 (format_word ring.geometry.format) (layout ring.geometry.format) 0 world address pin pair ring pcm tally from to limit (read_back ring.geometry.format) hears.steady hears.sent is stream
+  over_heard : (was : Ran) → is_open was ≡ false → StreamIs was ring pcm tally world → (kind : PinKind) (address pin pair : ℕ)
+      → signal_with_as kind (codec_at address codecs) 1 (format_word ring.geometry.format) (Some (layout ring.geometry.format)) pin ≡ Pair pair
+      → Plays was (layout ring.geometry.format) pair (line_of tally pcm) tally.course.sure (heard_as kind address pin world.carried)
+  over_heard ran.Playing over stream kind address pin pair is = absurd (false≢true (sym over))
+  over_heard ran.Drained over stream kind address pin pair is =
+      laws.drained kind codecs 1 (format_word ring.geometry.format) (layout ring.geometry.format) 0 world address pin pair ring pcm tally (read_back ring.geometry.format) hears.steady hears.sent is stream
+  over_heard (ran.Late from to limit) over stream kind address pin pair is =
+      laws.stopped kind codecs 1 (format_word ring.geometry.format) (layout ring.geometry.format) 0 world address pin pair ring pcm tally from to limit (read_back ring.geometry.format) hears.steady hears.sent is stream
 
   hear : (carried : List CarriedFrame) → carried ≡ world.carried
-      → ((address pin pair : ℕ) → signal_with (codec_at address codecs) 1 (format_word ring.geometry.format) (Some (layout ring.geometry.format)) pin ≡ Pair pair
-      → Plays tally.course.ran (layout ring.geometry.format) pair (line_of tally pcm) tally.course.sure (heard address pin world.carried))
+      → ((kind : PinKind) (address pin pair : ℕ) → signal_with_as kind (codec_at address codecs) 1 (format_word ring.geometry.format) (Some (layout ring.geometry.format)) pin ≡ Pair pair
+      → Plays tally.course.ran (layout ring.geometry.format) pair (line_of tally pcm) tally.course.sure (heard_as kind address pin world.carried))
       → (tally.course.ran ≡ ran.Drained → tally.course.at ≤ world.output.left) → HearTheLine codecs ring.geometry.format pcm tally carried
   hear carried same plays past = subst (HearTheLine codecs ring.geometry.format pcm tally) (sym same) (record {
     plays = plays;
-    all_sent = λ drained address pin pair is.
+    all_sent = λ drained kind address pin pair is.
         subst (λ (count : ℕ). tally.course.at / block_size (layout ring.geometry.format) ≤ count)
-        (sym (laws.count codecs 1 (format_word ring.geometry.format) (layout ring.geometry.format) 0 world address pin pair (read_back ring.geometry.format) hears.steady hears.sent is))
+        (sym (laws.count kind codecs 1 (format_word ring.geometry.format) (layout ring.geometry.format) 0 world address pin pair (read_back ring.geometry.format) hears.steady hears.sent is))
         (more_blocks tally.course.at world.output.left (block_size (layout ring.geometry.format)) (some_block (format_word ring.geometry.format) (layout ring.geometry.format) (read_back ring.geometry.format)) (past drained));
-    sent_alone = λ address pin pair is. laws.sent_alone codecs 1 (format_word ring.geometry.format) (layout ring.geometry.format) 0 world address pin pair (read_back ring.geometry.format) hears.steady is;
-    silent = λ address pin is. laws.silent codecs 1 (format_word ring.geometry.format) (layout ring.geometry.format) 0 world address pin (read_back ring.geometry.format) hears.steady is;
+    sent_alone = λ kind address pin pair is. laws.sent_alone kind codecs 1 (format_word ring.geometry.format) (layout ring.geometry.format) 0 world address pin pair (read_back ring.geometry.format) hears.steady is;
+    silent = λ kind address pin is. laws.silent kind codecs 1 (format_word ring.geometry.format) (layout ring.geometry.format) 0 world address pin (read_back ring.geometry.format) hears.steady is;
   })
 
 -- ---- the last run
@@ -223,13 +224,13 @@ module _ (laws : HearLaws) (codecs : List CodecState) (ring : Ring) (pcm : List 
         (let first = (or_parts (is_late_since m tally.course run.facts) (is_slow m tally.course run.facts) in_time).0 in sym (ap (λ (started : Bool). started && nat_lt (500 * m.limit) (run.facts.to - tally.course.from)) playing.started) ∙ first) in
         few_frames (world_of begins).frames run.facts.to tally.course.from (limit_in ring) clock_is (not_more (500 * limit_in ring) (run.facts.to - tally.course.from) late)
 
-    playing_heard : (address pin pair : ℕ) → signal_with (codec_at address codecs) 1 (format_word ring.geometry.format) (Some (layout ring.geometry.format)) pin ≡ Pair pair
-        → Plays tally'.course.ran (layout ring.geometry.format) pair (line_of tally' pcm) tally'.course.sure (heard address pin (world_of begins).carried)
-    playing_heard address pin pair is =
-        subst (λ (was : Ran). Plays was (layout ring.geometry.format) pair (line_of tally' pcm) tally'.course.sure (heard address pin (world_of begins).carried)) plays
-        (subst (λ (line : List ℕ). PlaysFront (layout ring.geometry.format) pair line (heard address pin (world_of begins).carried)) (sym line_is)
-        (laws.longer (layout ring.geometry.format) pair (line_of tally pcm) (run_bytes m tally.course run.facts (drop tally.course.used pcm)) (heard address pin (world_of begins).carried)
-        (laws.playing codecs 1 (format_word ring.geometry.format) (layout ring.geometry.format) 0 (world_of begins) address pin pair ring pcm tally (read_back ring.geometry.format) hears.steady hears.sent is playing few)))
+    playing_heard : (kind : PinKind) (address pin pair : ℕ) → signal_with_as kind (codec_at address codecs) 1 (format_word ring.geometry.format) (Some (layout ring.geometry.format)) pin ≡ Pair pair
+        → Plays tally'.course.ran (layout ring.geometry.format) pair (line_of tally' pcm) tally'.course.sure (heard_as kind address pin (world_of begins).carried)
+    playing_heard kind address pin pair is =
+        subst (λ (was : Ran). Plays was (layout ring.geometry.format) pair (line_of tally' pcm) tally'.course.sure (heard_as kind address pin (world_of begins).carried)) plays
+        (subst (λ (line : List ℕ). PlaysFront (layout ring.geometry.format) pair line (heard_as kind address pin (world_of begins).carried)) (sym line_is)
+        (laws.longer (layout ring.geometry.format) pair (line_of tally pcm) (run_bytes m tally.course run.facts (drop tally.course.used pcm)) (heard_as kind address pin (world_of begins).carried)
+        (laws.playing kind codecs 1 (format_word ring.geometry.format) (layout ring.geometry.format) 0 (world_of begins) address pin pair ring pcm tally (read_back ring.geometry.format) hears.steady hears.sent is playing few)))
 
 -- ---- the last call
 
@@ -347,8 +348,8 @@ module _ (on : Laws) (laws : HearLaws) (codecs : List CodecState) (pcm : List �
 
     abbrev HeardAt : Ran → Type 0
     HeardAt was =
-        (address pin pair : ℕ) → signal_with (codec_at address codecs) 1 (format_word writer.geometry.format) (Some (layout writer.geometry.format)) pin ≡ Pair pair
-        → Plays was (layout writer.geometry.format) pair (line_of tally' pcm) tally'.course.sure (heard address pin (world_of ends).carried)
+        (kind : PinKind) (address pin pair : ℕ) → signal_with_as kind (codec_at address codecs) 1 (format_word writer.geometry.format) (Some (layout writer.geometry.format)) pin ≡ Pair pair
+        → Plays was (layout writer.geometry.format) pair (line_of tally' pcm) tally'.course.sure (heard_as kind address pin (world_of ends).carried)
 
     ends_by : (answer : Ran) → answer ≡ tally'.course.ran → FinishTells ring pcm tally answer tally' begins ends → Ends
     ends_by ran.Playing is run = (

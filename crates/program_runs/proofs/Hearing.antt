@@ -16,6 +16,7 @@ use Rattle.codec_graph.specs.Widget.{node_at, is_pin, is_stereo, is_digital}
 use Rattle.codec_graph.specs.Candidates.{is_candidate_at, connectivity, device, association}
 use Rattle.verb_codes.specs.Words.{has_bit}
 use Rattle.codec_sound.specs.declared.signals.Signal.{Signal}
+use Rattle.route_planner.specs.declared.pin_kind.PinKind.TheVariants.{Analog}
 use Rattle.codec_sound.specs.HeardLists.{heard, signal_with}
 use Rattle.codec_sound.specs.Signals.{signal_of, stream_of}
 use Rattle.route_planner.specs.declared.routes.Outcome.{Outcome}
@@ -89,7 +90,7 @@ module _ (format : Format) (pcm : List ℕ) (tally : Tally) (carried : List Carr
       let pin = (get_or plan.pins k d).pin in
       let long = length-map plan.pins pin_in in
       let candidate = (is.pins.in_order.exactly pin).0 (k, omega (arith, long, within), get_or-map pin_in plan.pins k d pin within) in
-      let signal = there codec now pin at graph ∙ set_up.others pin (candidate_is_pin (node_at codec pin) candidate) (none_of codec format plan k d is within none) in hear.silent codec.address pin signal
+      let signal = there codec now pin at graph ∙ set_up.others pin (candidate_is_pin (node_at codec pin) candidate) (none_of codec format plan k d is within none) in hear.silent Analog codec.address pin signal
 
   entry_hears : (codec : RawCodec) (now : CodecState) (plan : Plan) (k : ℕ) (d : PinPlan) (found : Outcome) → codec_at codec.address codecs ≡ Some now → now.graph ≡ codec → IsPlan codec format plan → IsSetUp codec now.settings plan format 1
       → k < length plan.pins → (get_or plan.pins k d).outcome ≡ found → Hears codec.address (get_or plan.pins k d).pin (get_or plan.pins k d).pair found
@@ -97,9 +98,9 @@ module _ (format : Format) (pcm : List ℕ) (tally : Tally) (carried : List Carr
       let entry = get_or plan.pins k d in
       let open_is = subst (IsOutcomeOpen codec now.settings format 1 entry.pin entry.pair) same (set_up.routes k d within) in
       let signal = there codec now entry.pin at graph ∙ open_is.heard in record {
-        plays = hear.plays codec.address entry.pin entry.pair signal;
-        alone = hear.sent_alone codec.address entry.pin entry.pair signal;
-        all = λ drained. hear.all_sent drained codec.address entry.pin entry.pair signal;
+        plays = hear.plays Analog codec.address entry.pin entry.pair signal;
+        alone = hear.sent_alone Analog codec.address entry.pin entry.pair signal;
+        all = λ drained. hear.all_sent drained Analog codec.address entry.pin entry.pair signal;
       }
   entry_hears codec now plan k d outcome.Blocked at graph is set_up within same = silent_there codec now plan k d at graph is set_up within (subst IsNoRoute (sym same) (tt {0}))
   entry_hears codec now plan k d outcome.NoPath at graph is set_up within same = silent_there codec now plan k d at graph is set_up within (subst IsNoRoute (sym same) (tt {0}))

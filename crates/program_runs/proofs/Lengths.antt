@@ -1,4 +1,5 @@
 -- How many verbs set a codec up at most, and how many widgets it has.
+use Rattle.route_planner.specs.declared.pin_kind.PinKind.TheVariants.{Analog}
 use Rattle.std.proofs.Common.{◌≡◌, ◌≤◌, ◌+◌, ◌*◌, ◌&&◌, ◌++◌, ℕ, zero, suc, Bool, true, false, not, cond, List, [], length, map, Option, Some, None, refl, arith, length-append}
 use Rattle.std.specs.List.{range_with_len}
 use Rattle.std.proofs.lemmas.List.{length-map}
@@ -16,7 +17,7 @@ use Rattle.route_planner.specs.declared.routes.Plan.{Plan}
 use Rattle.route_planner.proofs.Callers.{IsBounded-from_sound}
 use Rattle.setup_verbs.specs.Roles.{role_of, is_used}
 use Rattle.program_runs.proofs.Given.{role_of_plan}
-use Rattle.setup_verbs.specs.VerbList.{only_if, has_choice, pass_input, pin_control, event_tag, power_verbs, silence_verbs, release_verbs, source_verbs, mixer_input, mixer_verbs, select_verbs, selector_verbs, output_verbs, pin_verbs, passed_verbs, route_verbs, commands_to, command_to, to_below, to_all, at_widget, step_at, step, setup_verbs}
+use Rattle.setup_verbs.specs.VerbList.{only_if, has_choice, pass_input, pin_control, event_tag, power_verbs, silence_verbs, release_verbs, source_verbs, mixer_input, mixer_verbs, select_verbs, selector_verbs, output_verbs, pin_verbs, passed_verbs, route_verbs, commands_to, command_to, to_below, to_all, at_widget, step_at, step, setup_verbs, setup_verbs_as}
 
 few_if : (applies : Bool) (verb : Verb) → length (only_if applies verb) ≤ 1
 few_if true verb = omega arith
@@ -68,9 +69,9 @@ few_source codec format tag pair node =
     let all = length-append (source_verbs format tag pair) (output_verbs codec node) in
     omega (arith, all, output)
 
-few_route : (codec : RawCodec) (plan : Plan) (format : Format) (tag nid : ℕ) (node : RawNode) → length node.list ≤ 64 → length (route_verbs codec plan format tag nid node (role_of plan nid)) ≤ 70
+few_route : (codec : RawCodec) (plan : Plan) (format : Format) (tag nid : ℕ) (node : RawNode) → length node.list ≤ 64 → length (route_verbs Analog codec plan format tag nid node (role_of plan nid)) ≤ 70
 few_route codec plan format tag nid node short =
-    role_of_plan plan nid (λ role. length (route_verbs codec plan format tag nid node role) ≤ 70) (omega arith) (λ index. few_passed codec plan nid node index short) (λ pair. few_source codec format tag pair node)
+    role_of_plan plan nid (λ role. length (route_verbs Analog codec plan format tag nid node role) ≤ 70) (omega arith) (λ index. few_passed codec plan nid node index short) (λ pair. few_source codec format tag pair node)
 
 -- ---- all nodes
 
@@ -108,18 +109,18 @@ few_silence codec plan nid node is = (let few : length (silence_verbs node (role
 few_release : (codec : RawCodec) (plan : Plan) → AreFew codec (role_of plan) (λ _. release_verbs)
 few_release codec plan nid node is = (let few : length (release_verbs node (role_of plan nid)) ≤ 1 = few_if (not (is_used (role_of plan nid)) && is_output_converter node) (SetStream 0) in omega (arith, few))
 
-few_routes : (codec : RawCodec) (plan : Plan) (format : Format) (tag : ℕ) → IsWellFormed codec → AreFew codec (role_of plan) (route_verbs codec plan format tag)
+few_routes : (codec : RawCodec) (plan : Plan) (format : Format) (tag : ℕ) → IsWellFormed codec → AreFew codec (role_of plan) (route_verbs Analog codec plan format tag)
 few_routes codec plan format tag well nid node is =
     let bounded = IsBounded-from_sound codec well.tables in
     few_route codec plan format tag nid node (rw is at (bounded.short nid))
 
 -- so many verbs set a codec up at most
 pub few_setup : (codec : RawCodec) (plan : Plan) (format : Format) (tag : ℕ) → IsWellFormed codec → length (setup_verbs codec plan format tag) ≤ 40000
-unfolding setup_verbs
+unfolding setup_verbs_as
 few_setup codec plan format tag well =
-    four (step codec plan (λ _. power_verbs)) (step codec plan (λ _. silence_verbs)) (step codec plan (λ _. release_verbs)) (step codec plan (route_verbs codec plan format tag))
+    four (step codec plan (λ _. power_verbs)) (step codec plan (λ _. silence_verbs)) (step codec plan (λ _. release_verbs)) (step codec plan (route_verbs Analog codec plan format tag))
     (few_step codec plan (λ _. power_verbs) (few_power codec plan)) (few_step codec plan (λ _. silence_verbs) (few_silence codec plan)) (few_step codec plan (λ _. release_verbs) (few_release codec plan))
-    (few_step codec plan (route_verbs codec plan format tag) (few_routes codec plan format tag well))
+    (few_step codec plan (route_verbs Analog codec plan format tag) (few_routes codec plan format tag well))
   where
     four : (power silence release route : List Command) → length power ≤ 8960 → length silence ≤ 8960 → length release ≤ 8960 → length route ≤ 8960
         → suc (length (power ++ (silence ++ (release ++ route)))) ≤ 40000

@@ -1,4 +1,5 @@
 -- The commands of a machine go to its codecs.
+use Rattle.route_planner.specs.declared.pin_kind.PinKind.TheVariants.{Analog}
 use Rattle.std.proofs.Common.{◌≤◌, ◌<◌, ◌^◌, ℕ, List, [], ◌∷◌, map, sym, subst, arith, lit≤}
 use Rattle.std.specs.Prelude.{All, Contains}
 use Rattle.std.proofs.lemmas.List.Elements.{All-nil, All-cons, All-head, All-tail, All-append, All-map, Contains-append_left, Contains-append_right, Contains-push}
@@ -79,7 +80,7 @@ verbs_go codecs format (file ∷ files) (plan ∷ plans) have well low among =
     let graph = file.graph in
     let here = All-head (IsAmong codecs) graph (graphs_in files) among in
     let below = All-head IsLow graph (graphs_in files) low in
-    let all = all_commands_of graph plan format stream_tag (All-head IsWellFormed graph (graphs_in files) well) have.0 (lit≤ tt) in
+    let all = all_commands_of Analog graph plan format stream_tag (All-head IsWellFormed graph (graphs_in files) well) have.0 (lit≤ tt) in
     All-append (Goes codecs) (verbs_by format graph plan) (verbs_for (verbs_by format) (graphs_in files) plans)
     (λ k command within. goes_to codecs _ (subst (Contains codecs) (sym (all k command within).address) here) ((all k command within).in_range below))
     (verbs_go codecs format files plans have.1 (All-tail IsWellFormed graph (graphs_in files) well) (All-tail IsLow graph (graphs_in files) low) (All-tail (IsAmong codecs) graph (graphs_in files) among))

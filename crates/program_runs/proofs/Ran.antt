@@ -65,6 +65,7 @@ ran_none means format play none stand between = record {
   format_is = refl;
   between = between;
   machine = refl;
+  kind = refl;
 }
 
 -- some items and then others, where what the setter means, the format and whether it plays stayed
@@ -90,6 +91,7 @@ ran_both means means' format play play' follow first second old middle new same 
       format_is = other.format_is ∙ one.format_is;
       between = other.between;
       machine = other.machine ∙ one.machine;
+      kind = other.kind ∙ one.kind;
     }
 
 -- a supply that is fed is so later on
@@ -145,4 +147,5 @@ module _ (means means' : StreamMeaning) (format : Format) (play play' : Bool) (l
       format_is = ran.format_is;
       between = ran.between;
       machine = ran.machine;
+      kind = ran.kind;
     }

@@ -1,4 +1,5 @@
 -- The made machine's pin has a route.
+use Rattle.route_planner.specs.declared.pin_kind.PinKind.TheVariants.{Analog}
 use Rattle.std.proofs.Common.{◌≡◌, ◌==◌, ◌+◌, ◌-◌, ℕ, zero, suc, Bool, true, false, not, cond, List, [], ◌∷◌, map, Option, Some, None, refl, sym, ap, subst, ◌∙◌, arith, eqb-true}
 use Rattle.std.specs.Prelude.{◌&&◌, ◌||◌, Contains, slice_get, nat_lt}
 use Rattle.std.proofs.lemmas.List.Elements.{All-nil, All-cons}
@@ -14,7 +15,7 @@ use Rattle.route_planner.specs.declared.routes.Outcome.TheVariants as outcome
 use Rattle.route_planner.specs.declared.routes.PinPlan.{PinPlan}
 use Rattle.route_planner.specs.declared.routes.Plan.{Plan}
 use Rattle.route_planner.specs.Plans.{IsOpenPath, IsOutcome, IsPlan, LeavesOpen}
-use Rattle.route_planner.specs.Paths.{IsAdmissible, is_analog_stereo, can_be_left, passes}
+use Rattle.route_planner.specs.Paths.{IsAdmissible, can_carry, can_be_left_as, passes}
 use Rattle.driver_agenda.specs.Planned.{has_route, have_route, is_route}
 use Rattle.laws_start.specs.Tasks.{HavePlans}
 use Rattle.made_inputs.specs.MadeMachine.{made_codec, made_machine, widgets}
@@ -75,13 +76,13 @@ some_path = record {
         (All-nil (λ (hop : Hop). passes is_inner (node_at made_codec hop.nid) ≡ true));
     ends = refl;
   };
-  analog_stereo = All-cons (λ (nid : ℕ). passes is_analog_stereo (node_at made_codec nid) ≡ true) 20 (12 ∷ 2 ∷ []) refl
-      (All-cons (λ (nid : ℕ). passes is_analog_stereo (node_at made_codec nid) ≡ true) 12 (2 ∷ []) refl
-      (All-cons (λ (nid : ℕ). passes is_analog_stereo (node_at made_codec nid) ≡ true) 2 [] refl
-      (All-nil (λ (nid : ℕ). passes is_analog_stereo (node_at made_codec nid) ≡ true))));
-  left_well = All-cons (λ (hop : Hop). passes (can_be_left made_codec hop.index) (node_at made_codec hop.nid) ≡ true) first_hop (second_hop ∷ []) refl
-      (All-cons (λ (hop : Hop). passes (can_be_left made_codec hop.index) (node_at made_codec hop.nid) ≡ true) second_hop [] refl
-      (All-nil (λ (hop : Hop). passes (can_be_left made_codec hop.index) (node_at made_codec hop.nid) ≡ true)));
+  carried = All-cons (λ (nid : ℕ). passes (can_carry Analog) (node_at made_codec nid) ≡ true) 20 (12 ∷ 2 ∷ []) refl
+      (All-cons (λ (nid : ℕ). passes (can_carry Analog) (node_at made_codec nid) ≡ true) 12 (2 ∷ []) refl
+      (All-cons (λ (nid : ℕ). passes (can_carry Analog) (node_at made_codec nid) ≡ true) 2 [] refl
+      (All-nil (λ (nid : ℕ). passes (can_carry Analog) (node_at made_codec nid) ≡ true))));
+  left_well = All-cons (λ (hop : Hop). passes (can_be_left_as Analog made_codec hop.index) (node_at made_codec hop.nid) ≡ true) first_hop (second_hop ∷ []) refl
+      (All-cons (λ (hop : Hop). passes (can_be_left_as Analog made_codec hop.index) (node_at made_codec hop.nid) ≡ true) second_hop [] refl
+      (All-nil (λ (hop : Hop). passes (can_be_left_as Analog made_codec hop.index) (node_at made_codec hop.nid) ≡ true)));
   supported = refl;
 }
 

@@ -123,6 +123,7 @@ pub record RanLine (means : StreamMeaning) (format : Format) (play : Bool) (line
   pub format_is : new.bring_up.agenda.format ≡ old.bring_up.agenda.format
   pub between : (setting_of after).in_run ≡ false
   pub machine : (setting_of after).machine ≡ (setting_of before).machine
+  pub kind : (setting_of after).kind ≡ (setting_of before).kind
 
 -- so a rig went on, from between two runs to between two runs
 pub record Ran (means : StreamMeaning) (format : Format) (play : Bool) (items : List Item) (old new : Stand)
@@ -138,6 +139,7 @@ pub record Ran (means : StreamMeaning) (format : Format) (play : Bool) (items : 
   pub format_is : new.player.bring_up.agenda.format ≡ old.player.bring_up.agenda.format
   pub between : (setting_of new.rig).in_run ≡ false
   pub machine : (setting_of new.rig).machine ≡ (setting_of old.rig).machine
+  pub kind : (setting_of new.rig).kind ≡ (setting_of old.rig).kind
 
 -- what is left of a closed driver, of which the last call left this bring-up and this tally
 pub record Leaves (play : Bool) (old : Parts) (ended : BringUp) (tally : Tally) (closed : Closed) : Type 0 where

@@ -159,6 +159,7 @@ pub(crate) fn run_last<T: Setter + Drop>(
         → spec.IsClosed (T.means driver.setter) driver.bring_up.agenda.format driver.play
         (spec.parts_with driver.bring_up driver.writer sound) closed (telling_of rig.old) (telling_of rig.new)) }
     ensures machine { OnOk result ((setting_of rig.new).machine ≡ (setting_of rig.old).machine) }
+    ensures kind { OnOk result ((setting_of rig.new).kind ≡ (setting_of rig.old).kind) }
 {
     drivers_keep_to_progress::<T>();
     runs_follow();

@@ -53,6 +53,7 @@ pub(crate) fn drive<T: Setter + Drop, S: Shelf>(
         driven.closed driven.read (shelves_of (S.told shelf.new) (S.faults shelf.new) (S.empties shelf.new)
         (S.given shelf.new)) cut.new (telling_of rig.new)) }
     ensures machine { OnOk result ((setting_of rig.new).machine ≡ (setting_of rig.old).machine) }
+    ensures kind { OnOk result ((setting_of rig.new).kind ≡ (setting_of rig.old).kind) }
     ensures told { S.told shelf.new ≡ S.told shelf.old }
     ensures asked { (other : List ℕ) → IsBeside driver.supply.source other
         → S.asked shelf.new other ≡ S.asked shelf.old other }

@@ -4,11 +4,13 @@ use Rattle.std.specs.Prelude.{AllPairs}
 use Rattle.std.proofs.lemmas.List.{get_or-map, length-map}
 use Rattle.std.proofs.lemmas.List.Kept.{AllPairs-from_increasing}
 use Rattle.codec_graph.specs.Candidates.{is_candidate}
+use Rattle.route_planner.specs.declared.pin_kind.PinKind.{PinKind}
+use Rattle.route_planner.specs.declared.pin_kind.PinKind.TheVariants.{Analog}
 use Rattle.hda_world.specs.Worlds.{codec_at}
 use Rattle.hda_files.specs.declared.machine.CodecFile.{CodecFile}
 use Rattle.hda_files.specs.declared.machine.Machine.{Machine}
 use Rattle.hda_files.specs.Machines.{IsSound}
-use Rattle.hda_controller.specs.Controllers.{is_candidate_in, is_candidate_of}
+use Rattle.hda_controller.specs.Controllers.{is_candidate_in, is_candidate_of, is_candidate_of_kind}
 use Rattle.hda_controller.specs.Openings.{codec_in, codecs_in}
 
 abbrev address_of : CodecFile → ℕ
@@ -16,7 +18,7 @@ address_of file = file.graph.address
 
 -- which of two codecs has an address
 pick : Bool → CodecFile → List CodecFile → ℕ → ℕ → Bool
-pick named file files address pin = is_candidate_in (if named then Some (codec_in file) else codec_at address (codecs_in files)) pin
+pick named file files address pin = is_candidate_in Analog (if named then Some (codec_in file) else codec_at address (codecs_in files)) pin
 
 not_named : (one other : ℕ) → one < other → (one == other) ≡ false
 not_named one other less = search (rules, tests)
@@ -39,7 +41,8 @@ candidate_at (file ∷ files) (suc k) d pin ascend within =
     later : AllPairs (λ x y. x < y) (map address_of files)
     later i j e less within = ascend (suc i) (suc j) e (omega (arith, less)) (omega (arith, within))
 
-pub candidate_known : (machine : Machine) (k : ℕ) (d : CodecFile) (pin : ℕ) → IsSound machine → k < length machine.codecs
-    → is_candidate (get_or machine.codecs k d).graph pin ≡ true → is_candidate_of (codecs_in machine.codecs) (get_or machine.codecs k d).graph.address pin ≡ true
-candidate_known machine k d pin sound within is =
-    candidate_at machine.codecs k d pin (AllPairs-from_increasing (map address_of machine.codecs) sound.ascending) within ∙ is
+pub candidate_known : (kind : PinKind) (machine : Machine) (k : ℕ) (d : CodecFile) (pin : ℕ) → kind ≡ Analog → IsSound machine → k < length machine.codecs
+    → is_candidate (get_or machine.codecs k d).graph pin ≡ true → is_candidate_of_kind kind (codecs_in machine.codecs) (get_or machine.codecs k d).graph.address pin ≡ true
+candidate_known kind machine k d pin analog sound within is =
+    ap (λ (pins : PinKind). is_candidate_of_kind pins (codecs_in machine.codecs) (get_or machine.codecs k d).graph.address pin) analog
+    ∙ (candidate_at machine.codecs k d pin (AllPairs-from_increasing (map address_of machine.codecs) sound.ascending) within ∙ is)

@@ -6,12 +6,13 @@ use Rattle.std.specs.Coded.{Coded-set, coded_bool}
 use Rattle.std.proofs.Math.Logic.{∥∥₁_elim}
 use Rattle.std.proofs.lemmas.List.Elements.{Contains-append_left, Contains-append_right, recursion_from_All}
 use Rattle.std.proofs.lemmas.Bool.{or_right}
-use Rattle.codec_sound.specs.HeardLists.{heard}
-use Rattle.route_planner.specs.Order.{IsOrder}
+use Rattle.codec_sound.specs.HeardLists.{heard_as}
+use Rattle.route_planner.specs.Order.{IsOrderAs}
+use Rattle.route_planner.specs.declared.pin_kind.PinKind.{PinKind}
 use Rattle.hda_world.specs.Worlds.{CarriedFrame, codec_at}
 use Rattle.hda_files.specs.declared.machine.CodecFile.{CodecFile}
-use Rattle.heard_lists.specs.Listings.{Listing, AreListsOf, graphs_in, places_of, places_in, pins_of, is_of, items_in, list_of}
-use Rattle.hda_controller.specs.Controllers.{is_candidate_in, is_candidate_of}
+use Rattle.heard_lists.specs.Listings.{Listing, AreListsAs, graphs_in, places_of, places_in, pins_of, is_of, items_in, list_of}
+use Rattle.hda_controller.specs.Controllers.{is_candidate_in, is_candidate_of_kind}
 use Rattle.hda_controller.specs.Openings.{codec_in, codecs_in}
 
 -- ---- places
@@ -59,58 +60,58 @@ placed address pin [] there = (let less = there.1 in absurd (omega (arith, less)
 placed address pin (first ∷ pins) (zero, less, is) = (0, omega arith, ap (λ (p : ℕ). (address, p)) is)
 placed address pin (first ∷ pins) (suc k, less, is) = (let there = placed address pin pins (k, omega (arith, less), is) in (suc there.0, omega (arith, there.1), there.2))
 
-candidate_by : (file : CodecFile) (files : List CodecFile) (address pin : ℕ) (named : Bool) → (file.graph.address == address) ≡ named
-    → (orders : List (List ℕ)) → AllZip IsOrder (graphs_in (file ∷ files)) orders
-    → ((orders : List (List ℕ)) → AllZip IsOrder (graphs_in files) orders → is_candidate_of (codecs_in files) address pin ≡ true → Contains (places_in (graphs_in files) orders) (address, pin))
-    → is_candidate_in (if named then Some (codec_in file) else codec_at address (codecs_in files)) pin ≡ true
+candidate_by : (kind : PinKind) (file : CodecFile) (files : List CodecFile) (address pin : ℕ) (named : Bool) → (file.graph.address == address) ≡ named
+    → (orders : List (List ℕ)) → AllZip (IsOrderAs kind) (graphs_in (file ∷ files)) orders
+    → ((orders : List (List ℕ)) → AllZip (IsOrderAs kind) (graphs_in files) orders → is_candidate_of_kind kind (codecs_in files) address pin ≡ true → Contains (places_in (graphs_in files) orders) (address, pin))
+    → is_candidate_in kind (if named then Some (codec_in file) else codec_at address (codecs_in files)) pin ≡ true
     → Contains (places_in (graphs_in (file ∷ files)) orders) (address, pin)
-candidate_by file files address pin named is [] ordered rest candidate = absurd ordered
-candidate_by file files address pin true is (pins ∷ orders) ordered rest candidate =
+candidate_by kind file files address pin named is [] ordered rest candidate = absurd ordered
+candidate_by kind file files address pin true is (pins ∷ orders) ordered rest candidate =
     let same : file.graph.address ≡ address = search (rules, tests) in
     Contains-append_left (places_of file.graph.address pins) (places_in (graphs_in files) orders) (address, pin)
     (subst (λ (a : ℕ). Contains (places_of a pins) (address, pin)) (sym same) (placed address pin pins ((ordered.0.exactly pin).1 candidate)))
-candidate_by file files address pin false is (pins ∷ orders) ordered rest candidate =
+candidate_by kind file files address pin false is (pins ∷ orders) ordered rest candidate =
     Contains-append_right (places_of file.graph.address pins) (places_in (graphs_in files) orders) (address, pin) (rest orders ordered.1 candidate)
 
-candidate_placed : (files : List CodecFile) (address pin : ℕ) (orders : List (List ℕ)) → AllZip IsOrder (graphs_in files) orders
-    → is_candidate_of (codecs_in files) address pin ≡ true → Contains (places_in (graphs_in files) orders) (address, pin)
-candidate_placed [] address pin orders ordered candidate = (let never : false ≡ true = candidate in absurd (no never))
+candidate_placed : (kind : PinKind) (files : List CodecFile) (address pin : ℕ) (orders : List (List ℕ)) → AllZip (IsOrderAs kind) (graphs_in files) orders
+    → is_candidate_of_kind kind (codecs_in files) address pin ≡ true → Contains (places_in (graphs_in files) orders) (address, pin)
+candidate_placed kind [] address pin orders ordered candidate = (let never : false ≡ true = candidate in absurd (no never))
   where
     no : false ≡ true → ⊥
     no is = (let never : false ≡ true = is in cc)
-candidate_placed (file ∷ files) address pin orders ordered candidate =
-    candidate_by file files address pin (file.graph.address == address) refl orders ordered
-    (λ orders ordered found. candidate_placed files address pin orders ordered found) candidate
+candidate_placed kind (file ∷ files) address pin orders ordered candidate =
+    candidate_by kind file files address pin (file.graph.address == address) refl orders ordered
+    (λ orders ordered found. candidate_placed kind files address pin orders ordered found) candidate
 
 -- its list is there
-pub candidate_listed : (files : List CodecFile) (address pin : ℕ) (lists : List Listing) → ∥ AreListsOf (graphs_in files) lists ∥₁
-    → is_candidate_of (codecs_in files) address pin ≡ true → Contains (pins_of lists) (address, pin)
-candidate_listed files address pin lists are candidate =
+pub candidate_listed : (kind : PinKind) (files : List CodecFile) (address pin : ℕ) (lists : List Listing) → ∥ AreListsAs kind (graphs_in files) lists ∥₁
+    → is_candidate_of_kind kind (codecs_in files) address pin ≡ true → Contains (pins_of lists) (address, pin)
+candidate_listed kind files address pin lists are candidate =
     there_among address pin (pins_of lists)
     (∥∥₁_elim are (Coded-set coded_bool _ _) (λ one. among address pin (pins_of lists)
-    (subst (λ (places : List (ℕ × ℕ)). Contains places (address, pin)) (sym one.pins) (candidate_placed files address pin one.orders one.ordered candidate))))
+    (subst (λ (places : List (ℕ × ℕ)). Contains places (address, pin)) (sym one.pins) (candidate_placed kind files address pin one.orders one.ordered candidate))))
 
 -- ---- what it heard
 
-found_by : (codec pin : ℕ) (frames : List CarriedFrame) (listing : Listing) (lists : List Listing) (here : Bool) → is_of codec pin listing ≡ here
-    → listing.list ≡ heard listing.codec listing.pin frames
-    → (is_among codec pin (pins_of lists) ≡ true → list_of codec pin lists ≡ heard codec pin frames)
+found_by : (kind : PinKind) (codec pin : ℕ) (frames : List CarriedFrame) (listing : Listing) (lists : List Listing) (here : Bool) → is_of codec pin listing ≡ here
+    → listing.list ≡ heard_as kind listing.codec listing.pin frames
+    → (is_among codec pin (pins_of lists) ≡ true → list_of codec pin lists ≡ heard_as kind codec pin frames)
     → (here || is_among codec pin (pins_of lists)) ≡ true
-    → items_in (if here then Some listing else find (is_of codec pin) lists) ≡ heard codec pin frames
-found_by codec pin frames listing lists true is heard_is rest found =
+    → items_in (if here then Some listing else find (is_of codec pin) lists) ≡ heard_as kind codec pin frames
+found_by kind codec pin frames listing lists true is heard_is rest found =
     let first : listing.codec ≡ codec = search (rules, tests) in
     let second : listing.pin ≡ pin = search (rules, tests) in
-    heard_is ∙ (ap (λ (a : ℕ). heard a listing.pin frames) first ∙ ap (λ (b : ℕ). heard codec b frames) second)
-found_by codec pin frames listing lists false is heard_is rest found = rest found
+    heard_is ∙ (ap (λ (a : ℕ). heard_as kind a listing.pin frames) first ∙ ap (λ (b : ℕ). heard_as kind codec b frames) second)
+found_by kind codec pin frames listing lists false is heard_is rest found = rest found
 
-found_all : (codec pin : ℕ) (frames : List CarriedFrame) (lists : List Listing) → AllByRecursion (λ listing. listing.list ≡ heard listing.codec listing.pin frames) lists
-    → is_among codec pin (pins_of lists) ≡ true → list_of codec pin lists ≡ heard codec pin frames
+found_all : (kind : PinKind) (codec pin : ℕ) (frames : List CarriedFrame) (lists : List Listing) → AllByRecursion (λ listing. listing.list ≡ heard_as kind listing.codec listing.pin frames) lists
+    → is_among codec pin (pins_of lists) ≡ true → list_of codec pin lists ≡ heard_as kind codec pin frames
 unfolding is_among
-found_all codec pin frames [] are is = (let never : false ≡ true = is in cc)
-found_all codec pin frames (listing ∷ lists) are is =
-    found_by codec pin frames listing lists (is_of codec pin listing) refl are.0 (found_all codec pin frames lists are.1) is
+found_all kind codec pin frames [] are is = (let never : false ≡ true = is in cc)
+found_all kind codec pin frames (listing ∷ lists) are is =
+    found_by kind codec pin frames listing lists (is_of codec pin listing) refl are.0 (found_all kind codec pin frames lists are.1) is
 
-pub list_heard : (codec pin : ℕ) (frames : List CarriedFrame) (lists : List Listing) → All (λ listing. listing.list ≡ heard listing.codec listing.pin frames) lists
-    → Contains (pins_of lists) (codec, pin) → list_of codec pin lists ≡ heard codec pin frames
-list_heard codec pin frames lists are there =
-    found_all codec pin frames lists (recursion_from_All _ lists are) (among codec pin (pins_of lists) there)
+pub list_heard : (kind : PinKind) (codec pin : ℕ) (frames : List CarriedFrame) (lists : List Listing) → All (λ listing. listing.list ≡ heard_as kind listing.codec listing.pin frames) lists
+    → Contains (pins_of lists) (codec, pin) → list_of codec pin lists ≡ heard_as kind codec pin frames
+list_heard kind codec pin frames lists are there =
+    found_all kind codec pin frames lists (recursion_from_All _ lists are) (among codec pin (pins_of lists) there)

@@ -1,4 +1,5 @@
 -- Where a journal leads, event by event.
+use Rattle.route_planner.specs.declared.pin_kind.PinKind.{PinKind}
 use Rattle.std.proofs.Common.{◌≡◌, ◌≤◌, ◌<◌, ◌+◌, ℕ, true, List, [], ◌∷◌, ◌++◌, length, map, get_or, take, drop, slice_range, refl, sym, ap, subst, ◌∙◌, arith, All}
 use Rattle.std.proofs.Props.{props}
 use Rattle.std.specs.Coded.{Coded-set, coded_ℕ, coded_list}
@@ -11,7 +12,7 @@ use Rattle.std.proofs.lemmas.List.{get_or-map, length-map}
 use Rattle.hda_registers.specs.declared.shapes.Width.{Width}
 use Rattle.world_rings.specs.Memory.{stored}
 use Rattle.codec_sound.specs.declared.heard.Heard.{Heard}
-use Rattle.codec_sound.specs.HeardLists.{heard}
+use Rattle.codec_sound.specs.HeardLists.{heard_as}
 use Rattle.codec_sound.proofs.Callers.{heard-append}
 use Rattle.world_steps.specs.declared.Step.{Step}
 use Rattle.hda_world.specs.Worlds.{World, CarriedFrame}
@@ -21,10 +22,10 @@ use Rattle.hda_world.specs.Tellings.{Went}
 use Rattle.hda_world.proofs.Callers.{after-append, AreHonest-append, access_leaves}
 use Rattle.codec_graph.specs.declared.raw.RawCodec.{RawCodec}
 use Rattle.heard_lists.specs.declared.pin_list.PinHeard.{PinHeard}
-use Rattle.heard_lists.specs.Listings.{Listing, with_items, grown, handed_out, pins_of, AreListsOf, AreEmpty}
-use Rattle.hda_controller.specs.Controllers.{ControllerState, StandsFor, is_candidate_of}
-use Rattle.hda_controller.specs.Hearing.{AreHeard, Grew}
-use Rattle.rig.specs.Replays.{AreHeardIn}
+use Rattle.heard_lists.specs.Listings.{Listing, with_items, grown_as, handed_out, pins_of, AreListsAs, AreEmpty}
+use Rattle.hda_controller.specs.Controllers.{ControllerState, StandsFor, is_candidate_of_kind}
+use Rattle.hda_controller.specs.Hearing.{AreHeardAs, GrewAs}
+use Rattle.rig.specs.Replays.{AreHeardInAs}
 use Rattle.rig.specs.Recordings.{IsWhere}
 
 -- ---- what is told
@@ -43,60 +44,66 @@ leads_on start events more event is = ap (λ (all : List Event). after all start
 
 -- ---- heard lists
 
-lists_go_on : (before later : World) (old new : List Listing) → Grew before later old new → AreHeardIn before old → AreHeardIn later new
-lists_go_on before later old new grew were =
-    subst (AreHeardIn later) (sym grew.lists)
-    (All-map (λ (listing : Listing). listing.list ≡ heard listing.codec listing.pin later.carried)
-    (λ (listing : Listing). with_items (heard listing.codec listing.pin grew.added) listing) old (λ k d within. one (get_or old k d) (were k d within)))
+lists_go_on : (kind : PinKind) (before later : World) (old new : List Listing) → GrewAs kind before later old new → AreHeardInAs kind before old → AreHeardInAs kind later new
+lists_go_on kind before later old new grew were =
+    subst (AreHeardInAs kind later) (sym grew.lists)
+    (All-map (λ (listing : Listing). listing.list ≡ heard_as kind listing.codec listing.pin later.carried)
+    (λ (listing : Listing). with_items (heard_as kind listing.codec listing.pin grew.added) listing) old (λ k d within. one (get_or old k d) (were k d within)))
   where
-    one : (listing : Listing) → listing.list ≡ heard listing.codec listing.pin before.carried
-        → listing.list ++ heard listing.codec listing.pin grew.added ≡ heard listing.codec listing.pin later.carried
+    one : (listing : Listing) → listing.list ≡ heard_as kind listing.codec listing.pin before.carried
+        → listing.list ++ heard_as kind listing.codec listing.pin grew.added ≡ heard_as kind listing.codec listing.pin later.carried
     one listing was =
-        ap (λ (items : List Heard). items ++ heard listing.codec listing.pin grew.added) was
-        ∙ (sym (heard-append listing.codec listing.pin before.carried grew.added)
-        ∙ ap (heard listing.codec listing.pin) (sym grew.carried))
+        ap (λ (items : List Heard). items ++ heard_as kind listing.codec listing.pin grew.added) was
+        ∙ (sym (heard-append kind listing.codec listing.pin before.carried grew.added)
+        ∙ ap (heard_as kind listing.codec listing.pin) (sym grew.carried))
 
-lists_stay : (before later : World) (lists : List Listing) → later.carried ≡ before.carried → AreHeardIn before lists → AreHeardIn later lists
-lists_stay before later lists same were =
-    subst (λ (carried : List CarriedFrame). All (λ listing. listing.list ≡ heard listing.codec listing.pin carried) lists) (sym same) were
+lists_stay : (kind : PinKind) (before later : World) (lists : List Listing) → later.carried ≡ before.carried → AreHeardInAs kind before lists → AreHeardInAs kind later lists
+lists_stay kind before later lists same were =
+    subst (λ (carried : List CarriedFrame). All (λ listing. listing.list ≡ heard_as kind listing.codec listing.pin carried) lists) (sym same) were
 
 -- ---- events
 
-module _ (start : World) (events more : List Event) (memory : List ℕ) (controller : ControllerState) (lists : List Listing) where
+module _ (kind : PinKind) (start : World) (events more : List Event) (memory : List ℕ) (controller : ControllerState) (lists : List Listing) where
   abbrev here : World
   here = after events start
 
   -- a step
-  pub where_stepped : (step : Step) (left : List ℕ) (moved : ControllerState) (grew : List Listing) → IsWhere start events memory controller lists
+  pub where_stepped : (step : Step) (left : List ℕ) (moved : ControllerState) (grew : List Listing) → IsWhere kind start events memory controller lists
       → more ≡ events ++ Stepped step ∷ [] → ((world : World) → StandsFor memory controller world → StandsFor left moved (after_step step world))
-      → ((world : World) → StandsFor memory controller world → Grew world (after_step step world) lists grew) → AreHeard moved.device.codecs grew
-      → IsWhere start more left moved grew
-  where_stepped step left moved grew was is stands goes known =
+      → ((world : World) → StandsFor memory controller world → GrewAs controller.kind world (after_step step world) lists grew) → AreHeardAs moved.kind moved.device.codecs grew
+      → moved.kind ≡ controller.kind
+      → IsWhere kind start more left moved grew
+  where_stepped step left moved grew was is stands goes known same =
       let leads : after_step step here ≡ after more start = sym (leads_on start events more (Stepped step) is) in
       record {
         stands = subst (StandsFor left moved) leads (stands here was.stands);
+        kind_is = same ∙ was.kind_is;
         known = known;
-        heard = subst (λ (world : World). AreHeardIn world grew) leads (lists_go_on here (after_step step here) lists grew (goes here was.stands) was.heard);
+        heard = subst (λ (world : World). AreHeardInAs kind world grew) leads
+            (lists_go_on kind here (after_step step here) lists grew
+            (subst (λ (pins : PinKind). GrewAs pins here (after_step step here) lists grew) was.kind_is (goes here was.stands)) was.heard);
       }
 
   -- a write of a register
-  pub where_written : (at : ℕ) (width : Width) (value : ℕ) (moved : ControllerState) → IsWhere start events memory controller lists
+  pub where_written : (at : ℕ) (width : Width) (value : ℕ) (moved : ControllerState) → IsWhere kind start events memory controller lists
       → more ≡ events ++ Write at width value ∷ []
       → ((memory : List ℕ) (world : World) → StandsFor memory controller world → StandsFor memory moved (after_write at width value world))
-      → ((some : List Listing) → AreHeard controller.device.codecs some → AreHeard moved.device.codecs some)
-      → IsWhere start more memory moved lists
-  where_written at width value moved was is stands keeps =
+      → ((some : List Listing) → AreHeardAs controller.kind controller.device.codecs some → AreHeardAs moved.kind moved.device.codecs some)
+      → moved.kind ≡ controller.kind
+      → IsWhere kind start more memory moved lists
+  where_written at width value moved was is stands keeps same =
       let leads : after_write at width value here ≡ after more start = sym (leads_on start events more (Write at width value) is) in
       record {
         stands = subst (StandsFor memory moved) leads (stands memory here was.stands);
+        kind_is = same ∙ was.kind_is;
         known = keeps lists was.known;
-        heard = subst (λ (world : World). AreHeardIn world lists) leads
-            (lists_stay here (after_write at width value here) lists (access_leaves here at value width).carried was.heard);
+        heard = subst (λ (world : World). AreHeardInAs kind world lists) leads
+            (lists_stay kind here (after_write at width value here) lists (access_leaves here at value width).carried was.heard);
       }
 
   -- a write of a piece of memory
-  pub where_stored : (at : ℕ) (piece left : List ℕ) → IsWhere start events memory controller lists → more ≡ events ++ DmaWrite at piece ∷ []
-      → left ≡ stored memory at piece → IsWhere start more left controller lists
+  pub where_stored : (at : ℕ) (piece left : List ℕ) → IsWhere kind start events memory controller lists → more ≡ events ++ DmaWrite at piece ∷ []
+      → left ≡ stored memory at piece → IsWhere kind start more left controller lists
   where_stored at piece left was is stores =
       let leads : happens here (DmaWrite at piece) ≡ after more start = sym (leads_on start events more (DmaWrite at piece) is) in
       record {
@@ -109,29 +116,33 @@ module _ (start : World) (events more : List Event) (memory : List ℕ) (control
           input_stands = was.stands.input_stands;
           output_stands = was.stands.output_stands;
         });
+        kind_is = was.kind_is;
         known = was.known;
-        heard = subst (λ (world : World). AreHeardIn world lists) leads was.heard;
+        heard = subst (λ (world : World). AreHeardInAs kind world lists) leads was.heard;
       }
 
   -- an event that changes nothing
-  pub where_seen : (event : Event) → IsWhere start events memory controller lists → more ≡ events ++ event ∷ [] → happens here event ≡ here
-      → IsWhere start more memory controller lists
+  pub where_seen : (event : Event) → IsWhere kind start events memory controller lists → more ≡ events ++ event ∷ [] → happens here event ≡ here
+      → IsWhere kind start more memory controller lists
   where_seen event was is nothing =
       let leads : here ≡ after more start = sym (leads_on start events more event is ∙ nothing) in
       record {
         stands = subst (StandsFor memory controller) leads was.stands;
+        kind_is = was.kind_is;
         known = was.known;
-        heard = subst (λ (world : World). AreHeardIn world lists) leads was.heard;
+        heard = subst (λ (world : World). AreHeardInAs kind world lists) leads was.heard;
       }
 
 -- ---- at the start
 
-pub where_started : (start : World) (memory : List ℕ) (controller : ControllerState) (lists : List Listing) → StandsFor memory controller start
-    → AreHeard controller.device.codecs lists → AreEmpty lists → start.carried ≡ [] → IsWhere start [] memory controller lists
-where_started start memory controller lists stands known empty none = record {
+pub where_started : (kind : PinKind) (start : World) (memory : List ℕ) (controller : ControllerState) (lists : List Listing) → StandsFor memory controller start
+    → controller.kind ≡ kind → AreHeardAs controller.kind controller.device.codecs lists → AreEmpty lists → start.carried ≡ []
+    → IsWhere kind start [] memory controller lists
+where_started kind start memory controller lists stands kind_is known empty none = record {
   stands = stands;
+  kind_is = kind_is;
   known = known;
-  heard = subst (λ (carried : List CarriedFrame). All (λ listing. listing.list ≡ heard listing.codec listing.pin carried) lists) (sym none) empty;
+  heard = subst (λ (carried : List CarriedFrame). All (λ listing. listing.list ≡ heard_as kind listing.codec listing.pin carried) lists) (sym none) empty;
 }
 
 -- ---- lists with other room
@@ -146,12 +157,13 @@ alike : (P : PinHeard → Type 0) (old new : List Listing) → map handed_out ne
     → All (λ (listing : Listing). P (handed_out listing)) new
 alike P old new same were = unmapped P new (subst (All P) (sym same) (All-map P handed_out old were))
 
-pub where_reserved : (start : World) (events : List Event) (memory : List ℕ) (controller : ControllerState) (old new : List Listing)
-    → map handed_out new ≡ map handed_out old → IsWhere start events memory controller old → IsWhere start events memory controller new
-where_reserved start events memory controller old new same was = record {
+pub where_reserved : (kind : PinKind) (start : World) (events : List Event) (memory : List ℕ) (controller : ControllerState) (old new : List Listing)
+    → map handed_out new ≡ map handed_out old → IsWhere kind start events memory controller old → IsWhere kind start events memory controller new
+where_reserved kind start events memory controller old new same was = record {
   stands = was.stands;
-  known = alike (λ (list : PinHeard). is_candidate_of controller.device.codecs list.codec list.pin ≡ true) old new same was.known;
-  heard = alike (λ (list : PinHeard). list.list ≡ heard list.codec list.pin (after events start).carried) old new same was.heard;
+  kind_is = was.kind_is;
+  known = alike (λ (list : PinHeard). is_candidate_of_kind controller.kind controller.device.codecs list.codec list.pin ≡ true) old new same was.known;
+  heard = alike (λ (list : PinHeard). list.list ≡ heard_as kind list.codec list.pin (after events start).carried) old new same was.heard;
 }
 
 -- ---- of which pins they are
@@ -160,28 +172,28 @@ pins_handed : (lists : List Listing) → pins_of lists ≡ map (λ (list : PinHe
 pins_handed [] = refl
 pins_handed (listing ∷ lists) = ap (λ (pins : List (ℕ × ℕ)). (listing.codec, listing.pin) ∷ pins) (pins_handed lists)
 
-pins_grown : (frames : List CarriedFrame) (lists : List Listing) → pins_of (grown frames lists) ≡ pins_of lists
-pins_grown frames [] = refl
-pins_grown frames (listing ∷ lists) = ap (λ (pins : List (ℕ × ℕ)). (listing.codec, listing.pin) ∷ pins) (pins_grown frames lists)
+pins_grown : (kind : PinKind) (frames : List CarriedFrame) (lists : List Listing) → pins_of (grown_as kind frames lists) ≡ pins_of lists
+pins_grown kind frames [] = refl
+pins_grown kind frames (listing ∷ lists) = ap (λ (pins : List (ℕ × ℕ)). (listing.codec, listing.pin) ∷ pins) (pins_grown kind frames lists)
 
-pub listed_by : (graphs : List RawCodec) (old new : List Listing) → pins_of new ≡ pins_of old → AreListsOf graphs old → AreListsOf graphs new
-listed_by graphs old new same are = record { orders = are.orders; ordered = are.ordered; pins = same ∙ are.pins }
+pub listed_by : (kind : PinKind) (graphs : List RawCodec) (old new : List Listing) → pins_of new ≡ pins_of old → AreListsAs kind graphs old → AreListsAs kind graphs new
+listed_by kind graphs old new same are = record { orders = are.orders; ordered = are.ordered; pins = same ∙ are.pins }
 
-pub listed_reserved : (graphs : List RawCodec) (old new : List Listing) → map handed_out new ≡ map handed_out old → AreListsOf graphs old → AreListsOf graphs new
-listed_reserved graphs old new same are =
-    listed_by graphs old new (pins_handed new ∙ (ap (map (λ (list : PinHeard). (list.codec, list.pin))) same ∙ sym (pins_handed old))) are
+pub listed_reserved : (kind : PinKind) (graphs : List RawCodec) (old new : List Listing) → map handed_out new ≡ map handed_out old → AreListsAs kind graphs old → AreListsAs kind graphs new
+listed_reserved kind graphs old new same are =
+    listed_by kind graphs old new (pins_handed new ∙ (ap (map (λ (list : PinHeard). (list.codec, list.pin))) same ∙ sym (pins_handed old))) are
 
-pub listed_stepped : (graphs : List RawCodec) (before later : World) (old new : List Listing) → Grew before later old new → AreListsOf graphs old → AreListsOf graphs new
-listed_stepped graphs before later old new grew are = listed_by graphs old new (ap pins_of grew.lists ∙ pins_grown grew.added old) are
+pub listed_stepped : (pins kind : PinKind) (graphs : List RawCodec) (before later : World) (old new : List Listing) → GrewAs pins before later old new → AreListsAs kind graphs old → AreListsAs kind graphs new
+listed_stepped pins kind graphs before later old new grew are = listed_by kind graphs old new (ap pins_of grew.lists ∙ pins_grown pins grew.added old) are
 
 -- ---- answers of the moment
 
-pub memory_there : {start : World} {events : List Event} {memory : List ℕ} {controller : ControllerState} {lists : List Listing}
-    → ∥ IsWhere start events memory controller lists ∥₁ → (after events start).memory ≡ memory
+pub memory_there : {kind : PinKind} {start : World} {events : List Event} {memory : List ℕ} {controller : ControllerState} {lists : List Listing}
+    → ∥ IsWhere kind start events memory controller lists ∥₁ → (after events start).memory ≡ memory
 memory_there there = ∥∥₁_elim there (Coded-set (coded_list coded_ℕ) _ _) (λ here. here.stands.memory_is)
 
-pub value_there : {start : World} {events : List Event} {memory : List ℕ} {controller : ControllerState} {lists : List Listing} (at : ℕ) (width : Width) (value : ℕ)
-    → ∥ IsWhere start events memory controller lists ∥₁ → value ≡ value_at controller.device.registers at width
+pub value_there : {kind : PinKind} {start : World} {events : List Event} {memory : List ℕ} {controller : ControllerState} {lists : List Listing} (at : ℕ) (width : Width) (value : ℕ)
+    → ∥ IsWhere kind start events memory controller lists ∥₁ → value ≡ value_at controller.device.registers at width
     → value ≡ value_at (after events start).registers at width
 value_there at width value there read =
     ∥∥₁_elim there (Coded-set coded_ℕ _ _) (λ here. read ∙ ap (λ (fields : Fields). value_at fields at width) (sym here.stands.registers_are))
@@ -206,12 +218,12 @@ whole_write new old written n is long size = rw (size, ← long) (take-append_se
 pub honest_same : (start : World) (events same : List Event) → same ≡ events → AreHonest events start → AreHonest same start
 honest_same start events same is honest = subst (λ (all : List Event). AreHonest all start) (sym is) honest
 
-pub where_same : (start : World) (events same : List Event) (memory : List ℕ) (controller : ControllerState) (lists : List Listing) → same ≡ events
-    → IsWhere start events memory controller lists → IsWhere start same memory controller lists
-where_same start events same memory controller lists is there = subst (λ (all : List Event). IsWhere start all memory controller lists) (sym is) there
+pub where_same : (kind : PinKind) (start : World) (events same : List Event) (memory : List ℕ) (controller : ControllerState) (lists : List Listing) → same ≡ events
+    → IsWhere kind start events memory controller lists → IsWhere kind start same memory controller lists
+where_same kind start events same memory controller lists is there = subst (λ (all : List Event). IsWhere kind start all memory controller lists) (sym is) there
 
 -- ---- lists of the moment
 
-pub heard_there : {start : World} {events : List Event} {memory : List ℕ} {controller : ControllerState} {lists : List Listing}
-    → ∥ IsWhere start events memory controller lists ∥₁ → AreHeardIn (after events start) lists
+pub heard_there : {kind : PinKind} {start : World} {events : List Event} {memory : List ℕ} {controller : ControllerState} {lists : List Listing}
+    → ∥ IsWhere kind start events memory controller lists ∥₁ → AreHeardInAs kind (after events start) lists
 heard_there there = ∥∥₁_elim there (Prim.hlevel props) (λ here. here.heard)

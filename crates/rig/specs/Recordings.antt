@@ -1,20 +1,22 @@
 -- A machine in motion whose journal is kept, and what is told of it. This project's own.
-use Rattle.std.specs.Prelude.{◌≤◌, ℕ, List, sum_by}
+use Rattle.std.specs.Prelude.{◌≡◌, ◌≤◌, ℕ, List, sum_by}
+use Rattle.route_planner.specs.declared.pin_kind.PinKind.{PinKind}
 use Rattle.world_steps.specs.declared.Step.{Step}
 use Rattle.hda_world.specs.Worlds.{World}
 use Rattle.hda_world.specs.Events.{Event, after}
 use Rattle.hda_world.specs.Journals.{JournalState}
 use Rattle.heard_lists.specs.Listings.{Listing, HasRoom}
 use Rattle.hda_controller.specs.Controllers.{ControllerState, StandsFor}
-use Rattle.hda_controller.specs.Hearing.{AreHeard, most_items}
-use Rattle.rig.specs.Replays.{AreHeardIn}
+use Rattle.hda_controller.specs.Hearing.{AreHeardAs, most_items}
+use Rattle.rig.specs.Replays.{AreHeardInAs}
 
--- the controller with its memory and the heard lists are where the journal leads from the start
-pub record IsWhere (start : World) (events : List Event) (memory : List ℕ) (controller : ControllerState)
-    (lists : List Listing) : Type 0 where
+-- the controller with its memory and the heard lists, of pins of the kind, are where the journal leads from the start
+pub record IsWhere (kind : PinKind) (start : World) (events : List Event) (memory : List ℕ)
+    (controller : ControllerState) (lists : List Listing) : Type 0 where
   pub stands : StandsFor memory controller (after events start)
-  pub known : AreHeard controller.device.codecs lists
-  pub heard : AreHeardIn (after events start) lists
+  pub kind_is : controller.kind ≡ kind
+  pub known : AreHeardAs controller.kind controller.device.codecs lists
+  pub heard : AreHeardInAs kind (after events start) lists
 
 -- a journal has room for so many more entries and bytes of pieces of memory, and each heard list for so many more items
 pub record HasRoomFor (entries bytes items : ℕ) (journal : JournalState) (lists : List Listing) : Type 0 where

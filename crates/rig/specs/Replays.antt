@@ -1,6 +1,8 @@
 -- Replay of a journal: where its events lead from the start of a machine. This project's own.
 use Rattle.std.specs.Prelude.{◌≡◌, ℕ, List, All, replicate}
-use Rattle.codec_sound.specs.HeardLists.{heard}
+use Rattle.route_planner.specs.declared.pin_kind.PinKind.{PinKind}
+use Rattle.route_planner.specs.declared.pin_kind.PinKind.TheVariants.{Analog}
+use Rattle.codec_sound.specs.HeardLists.{heard_as}
 use Rattle.hda_files.specs.declared.machine.Machine.{Machine}
 use Rattle.hda_world.specs.Worlds.{World}
 use Rattle.hda_world.specs.Events.{Event, after, AreHonest}
@@ -26,6 +28,11 @@ pub record Replays (start : World) (journal : List Event) (world : World) : Type
   pub honest : AreHonest journal start
   pub leads : world ≡ after journal start
 
--- each list has what its pin heard of the link frames that the world carried
+-- each list has what its pin heard, as a pin of the kind, of the link frames that the world carried
+abbrev pub AreHeardInAs : PinKind → World → List Listing → Type 0
+AreHeardInAs kind world lists = All (λ listing. listing.list ≡ heard_as kind listing.codec listing.pin world.carried)
+    lists
+
+-- as an analog pin
 abbrev pub AreHeardIn : World → List Listing → Type 0
-AreHeardIn world lists = All (λ listing. listing.list ≡ heard listing.codec listing.pin world.carried) lists
+AreHeardIn world lists = AreHeardInAs Analog world lists

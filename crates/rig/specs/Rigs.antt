@@ -7,12 +7,12 @@ use Rattle.hda_world.specs.declared.world.TheConstants.{REGION_BYTES}
 use Rattle.hda_world.specs.Worlds.{World}
 use Rattle.hda_world.specs.JournalEvents.{events_of}
 use Rattle.hda_world.specs.Tellings.{Telling, world_of}
-use Rattle.heard_lists.specs.Listings.{Listing, AreListsOf, graphs_in}
+use Rattle.heard_lists.specs.Listings.{Listing, AreListsAs, graphs_in}
 use Rattle.rig.specs.declared.recording.Recording.{Recording}
 use Rattle.rig.specs.declared.rig.Rig.{Rig}
 use Rattle.rig.specs.declared.setting.Setting.{Setting}
 use Rattle.hda_controller.specs.Controllers.{StandsFor}
-use Rattle.rig.specs.Replays.{telling_from, start_of, Replays, AreHeardIn}
+use Rattle.rig.specs.Replays.{telling_from, start_of, Replays, AreHeardInAs}
 
 abbrev pub told_of : Recording → Telling
 told_of recording = telling_from REGION_BYTES recording.machine (events_of recording.journal)
@@ -29,19 +29,26 @@ pub told_whole : (rig : Rig) → IfSome (told_by rig) (λ telling. length (world
 told_whole rig = ∥∥₁_elim rig.recording.stands (Coded-set coded_ℕ _ _)
     (λ here. ap length here.stands.memory_is ∙ rig.recording.whole)
 
--- what no access changes: the machine, whether a run is open, and with which entry and which groups the last one began
+-- what no access changes: the machine, for which pins there are lists, whether a run is open, and with which entry and
+-- which groups the last one began
 abbrev pub setting_of : Rig → Setting
-setting_of rig = record { machine = rig.recording.machine; in_run = rig.in_run; begun = rig.begun; groups = rig.groups }
+setting_of rig = record {
+  machine = rig.recording.machine;
+  kind = rig.recording.kind;
+  in_run = rig.in_run;
+  begun = rig.begun;
+  groups = rig.groups;
+}
 
 -- what its pins heard
 abbrev pub lists_of : Rig → List Listing
 lists_of rig = rig.recording.heard
 
 -- the journal replays to a world, and the rig is there: its controller with its memory stands for this world, and there
--- is one list for each candidate pin of the machine, which has what that pin heard in it
+-- is one list for each candidate pin of the kind, which has what that pin heard in it
 pub record IsReplayed (rig : Rig) : Type 0 where
   pub world : World
   pub replays : Replays (start_of REGION_BYTES (setting_of rig).machine) (telling_of rig).journal world
   pub stands : ∥ StandsFor rig.recording.memory.items rig.recording.controller world ∥₁
-  pub heard : AreHeardIn world (lists_of rig)
-  pub pins : ∥ AreListsOf (graphs_in (setting_of rig).machine.codecs) (lists_of rig) ∥₁
+  pub heard : AreHeardInAs (setting_of rig).kind world (lists_of rig)
+  pub pins : ∥ AreListsAs (setting_of rig).kind (graphs_in (setting_of rig).machine.codecs) (lists_of rig) ∥₁

@@ -34,6 +34,7 @@ pub(crate) fn pass(recording: &mut Recording, groups: &[Group], number: usize)
         recording.old.journal recording.old.heard }
     ensures told { Went (told_of recording.old) (told_of recording.new) (map Stepped (steps_before number groups.now)) }
     ensures machine { recording.new.machine ≡ recording.old.machine }
+    ensures kind { recording.new.kind ≡ recording.old.kind }
     ensures room { (entries bytes items : ℕ)
         → HasRoomFor (length (steps_before number groups.now) + entries) bytes
         (items_for (steps_before number groups.now) + items) recording.old.journal recording.old.heard
@@ -49,6 +50,7 @@ pub(crate) fn pass_all(recording: &mut Recording, groups: &[Group])
     requires { HasRoomFor (step_count groups.now) 0 (item_count groups.now) recording.old.journal recording.old.heard }
     ensures told { Went (told_of recording.old) (told_of recording.new) (all_steps_in groups.now) }
     ensures machine { recording.new.machine ≡ recording.old.machine }
+    ensures kind { recording.new.kind ≡ recording.old.kind }
     ensures room { (entries bytes items : ℕ)
         → HasRoomFor (step_count groups.now + entries) bytes (item_count groups.now + items) recording.old.journal
         recording.old.heard

@@ -4,7 +4,7 @@ ghost use Rattle.hda_world.specs.declared.world.TheConstants.{REGION_BYTES};
 ghost use Rattle.hda_world.specs.Events.{AreHonest, Stepped, Begin, End, Read, Write, DmaRead, DmaWrite};
 ghost use Rattle.hda_world.specs.JournalEvents.{events_of};
 ghost use Rattle.hda_files.specs.Machines.{IsSound};
-ghost use Rattle.heard_lists.specs.Listings.{AreListsOf, graphs_in};
+ghost use Rattle.heard_lists.specs.Listings.{AreListsAs, graphs_in};
 ghost use Rattle.hda_controller.specs.Hearing.{most_items};
 ghost use Rattle.rig.specs.Replays.{zeros, start_of};
 ghost use Rattle.rig.specs.Recordings.{IsWhere, HasRoomFor, items_for};
@@ -16,6 +16,7 @@ use hda_controller::Controller;
 use hda_files::Machine;
 use hda_world::{Journal, REGION_BYTES, Step};
 use heard_lists::HeardLists;
+use route_planner::PinKind;
 use std::alloc::{AllocError, Global};
 
 /// A machine in motion, what its pins hear, and the journal of all that happened since its start. It is where its
@@ -23,15 +24,17 @@ use std::alloc::{AllocError, Global};
 #[derive(Drop)]
 pub(crate) struct Recording {
     pub(crate) machine: Machine,
+    /// For which of its pins there are lists.
+    pub(crate) kind: PinKind,
     memory: Vec<u8>,
     controller: Controller,
     pub(crate) heard: HeardLists,
     pub(crate) journal: Journal,
     pub ghost whole: { length memory.items ≡ REGION_BYTES },
     pub ghost honest: { AreHonest (events_of journal) (start_of REGION_BYTES machine) } by { AreHonest-prop _ _ },
-    pub ghost stands: { ∥ IsWhere (start_of REGION_BYTES machine) (events_of journal) memory.items
+    pub ghost stands: { ∥ IsWhere kind (start_of REGION_BYTES machine) (events_of journal) memory.items
         controller heard ∥₁ },
-    pub ghost pins: { ∥ AreListsOf (graphs_in machine.codecs) heard ∥₁ },
+    pub ghost pins: { ∥ AreListsAs kind (graphs_in machine.codecs) heard ∥₁ },
 }
 
 impl Recording {
@@ -48,15 +51,21 @@ impl Recording {
     ///
     /// # Errors
     /// Want of memory.
-    pub(crate) fn new(alloc: Global, machine: Machine) -> Result<Recording, AllocError>
+    pub(crate) fn new(
+        alloc: Global,
+        kind: PinKind,
+        machine: Machine,
+    ) -> Result<Recording, AllocError>
         requires { IsSound machine }
         ensures machine { IfOk result (λ recording. recording.machine ≡ machine) }
+        ensures kind { IfOk result (λ recording. recording.kind ≡ kind) }
         ensures journal { IfOk result (λ recording. events_of recording.journal ≡ []) }
     {
-        let controller = Controller::new(alloc, &machine)?;
-        let heard = HeardLists::new(alloc, &machine)?;
+        let controller = Controller::of_kind(alloc, kind, &machine)?;
+        let heard = HeardLists::of_kind(alloc, kind, &machine)?;
         Ok(Recording {
             machine,
+            kind,
             memory: zeroed(alloc, REGION_BYTES)?,
             controller,
             heard,
@@ -77,6 +86,7 @@ impl Recording {
         ensures room { OnOk result (HasRoomFor entries bytes items self.new.journal self.new.heard) }
         ensures told { told_of self.new ≡ told_of self.old }
         ensures machine { self.new.machine ≡ self.old.machine }
+        ensures kind { self.new.kind ≡ self.old.kind }
     {
         self.journal.reserve(entries, bytes)?;
         self.heard.reserve(items)
@@ -94,6 +104,7 @@ impl Recording {
         requires { HasRoomFor 1 0 (most_items step.now) self.old.journal self.old.heard }
         ensures told { Went (told_of self.old) (told_of self.new) (Stepped step.now ∷ []) }
         ensures machine { self.new.machine ≡ self.old.machine }
+        ensures kind { self.new.kind ≡ self.old.kind }
         ensures room { (entries bytes items : ℕ) → HasRoomFor (1 + entries) bytes (most_items step.now + items)
             self.old.journal self.old.heard
             → HasRoomFor entries bytes items self.new.journal self.new.heard }
@@ -108,6 +119,7 @@ impl Recording {
         requires { HasRoomFor (length steps.now) 0 (items_for steps.now) self.old.journal self.old.heard }
         ensures told { Went (told_of self.old) (told_of self.new) (map Stepped steps.now) }
         ensures machine { self.new.machine ≡ self.old.machine }
+        ensures kind { self.new.kind ≡ self.old.kind }
         ensures room { (entries bytes items : ℕ)
             → HasRoomFor (length steps.now + entries) bytes (items_for steps.now + items) self.old.journal
             self.old.heard
@@ -123,6 +135,7 @@ impl Recording {
         requires { HasRoomFor 1 0 0 self.old.journal self.old.heard }
         ensures told { Went (told_of self.old) (told_of self.new) (Begin ∷ []) }
         ensures machine { self.new.machine ≡ self.old.machine }
+        ensures kind { self.new.kind ≡ self.old.kind }
         ensures room { (entries bytes items : ℕ) → HasRoomFor (1 + entries) bytes items self.old.journal self.old.heard
             → HasRoomFor entries bytes items self.new.journal self.new.heard }
     {
@@ -134,6 +147,7 @@ impl Recording {
         requires { HasRoomFor 1 0 0 self.old.journal self.old.heard }
         ensures told { Went (told_of self.old) (told_of self.new) (End ∷ []) }
         ensures machine { self.new.machine ≡ self.old.machine }
+        ensures kind { self.new.kind ≡ self.old.kind }
         ensures room { (entries bytes items : ℕ) → HasRoomFor (1 + entries) bytes items self.old.journal self.old.heard
             → HasRoomFor entries bytes items self.new.journal self.new.heard }
     {
@@ -148,6 +162,7 @@ impl Recording {
     {
         let Recording {
             machine,
+            kind: _,
             memory: _,
             controller: _,
             heard,

@@ -1,6 +1,7 @@
 //! The rig: a machine that makes the steps of a schedule and keeps its journal.
 ghost use Rattle.std.specs.Prelude.{◌≡◌, ◌≤◌, ◌<◌, ◌+◌, ◌^◌, true, false, length, drop};
 ghost use Rattle.std.proofs.Props.{props};
+ghost use Rattle.route_planner.specs.declared.pin_kind.PinKind.TheVariants as pin_kind;
 ghost use Rattle.hda_world.specs.JournalEvents.{events_of};
 ghost use Rattle.rig.specs.Recordings.{HasRoomFor};
 ghost use Rattle.rig.specs.Rooms.{step_count, item_count};
@@ -17,6 +18,7 @@ use hda_files::Machine;
 use hda_items::Items;
 use hda_platform::Platform;
 use hda_world::Step;
+use route_planner::PinKind;
 use schedule_reader::Group;
 use std::alloc::{AllocError, Global};
 
@@ -64,10 +66,39 @@ impl Rig {
         requires { IsSound machine }
         ensures told { IfOk result (λ rig. told_by rig ≡ Some (telling_from REGION_BYTES machine [])) }
         ensures machine { IfOk result (λ rig. (setting_of rig).machine ≡ machine) }
+        ensures kind { IfOk result (λ rig. (setting_of rig).kind ≡ pin_kind.Analog) }
+        ensures in_run { IfOk result (λ rig. (setting_of rig).in_run ≡ false) }
+    {
+        Rig::of_kind(alloc, PinKind::Analog, machine)
+    }
+
+    /// The same, whose lists are those of the digital candidate pins.
+    ///
+    /// # Errors
+    /// Want of memory.
+    pub fn digital(alloc: Global, machine: Machine) -> Result<Rig, AllocError>
+        requires { IsSound machine }
+        ensures told { IfOk result (λ rig. told_by rig ≡ Some (telling_from REGION_BYTES machine [])) }
+        ensures machine { IfOk result (λ rig. (setting_of rig).machine ≡ machine) }
+        ensures kind { IfOk result (λ rig. (setting_of rig).kind ≡ pin_kind.Digital) }
+        ensures in_run { IfOk result (λ rig. (setting_of rig).in_run ≡ false) }
+    {
+        Rig::of_kind(alloc, PinKind::Digital, machine)
+    }
+
+    /// The same, whose lists are those of the candidate pins of the kind.
+    ///
+    /// # Errors
+    /// Want of memory.
+    pub fn of_kind(alloc: Global, kind: PinKind, machine: Machine) -> Result<Rig, AllocError>
+        requires { IsSound machine }
+        ensures told { IfOk result (λ rig. told_by rig ≡ Some (telling_from REGION_BYTES machine [])) }
+        ensures machine { IfOk result (λ rig. (setting_of rig).machine ≡ machine) }
+        ensures kind { IfOk result (λ rig. (setting_of rig).kind ≡ kind) }
         ensures in_run { IfOk result (λ rig. (setting_of rig).in_run ≡ false) }
     {
         Ok(Rig {
-            recording: Recording::new(alloc, machine)?,
+            recording: Recording::new(alloc, kind, machine)?,
             in_run: false,
             begun: 0,
             groups: Items::new(alloc),
@@ -106,6 +137,7 @@ impl Rig {
         ensures went { OnOk result (Went (telling_of self.old) (telling_of self.new) (Begin ∷ [])) }
         ensures setting { OnOk result (setting_of self.new ≡ record {
           machine = (setting_of self.old).machine;
+          kind = (setting_of self.old).kind;
           in_run = true;
           begun = length (telling_of self.old).journal;
           groups = groups.now;

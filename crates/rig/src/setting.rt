@@ -2,6 +2,7 @@
 
 use hda_files::Machine;
 use hda_items::Items;
+use route_planner::PinKind;
 use schedule_reader::Group;
 
 /// What no access changes. Contracts alone speak of it.
@@ -9,6 +10,8 @@ use schedule_reader::Group;
 pub struct Setting {
     /// The machine as its file describes it.
     pub machine: Machine,
+    /// For which of its pins there are lists.
+    pub kind: PinKind,
     /// Whether a run of the driver is open.
     pub in_run: bool,
     /// The number of the journal's entry with which the last run began, counted from 0.

@@ -3,11 +3,12 @@ use Rattle.std.proofs.Common.{◌<◌, ◌≤◌, ℕ, List, [], take, drop, len
 use Rattle.codec_graph.specs.declared.raw.RawCodec.{RawCodec}
 use Rattle.codec_graph.specs.Cycles.{HasSoundTables}
 use Rattle.stream_format.specs.declared.format.Format.{Format}
+use Rattle.route_planner.specs.declared.pin_kind.PinKind.{PinKind}
 use Rattle.route_planner.specs.declared.routes.Hop.{Hop}
 use Rattle.route_planner.specs.declared.routes.PinPlan.{PinPlan}
 use Rattle.route_planner.specs.declared.routes.Plan.{Plan}
 use Rattle.route_planner.specs.Paths.{LeadsTo}
-use Rattle.route_planner.specs.Plans.{IsOutcome, IsPlan}
+use Rattle.route_planner.specs.Plans.{IsOutcomeAs, IsPlanAs}
 use Rattle.route_planner.specs.Search.{IsBounded}
 use Rattle.route_planner.proofs.Bounds as bounds
 use Rattle.route_planner.proofs.PlanParts as parts
@@ -25,9 +26,9 @@ pub IsBounded-from_sound : (codec : RawCodec) → HasSoundTables codec → IsBou
 IsBounded-from_sound codec sound = bounds.IsBounded-from_sound codec sound
 
 -- the entry at a place of a plan has the right outcome after those before it
-pub outcome_at : (codec : RawCodec) (format : Format) (plan : Plan) (k : ℕ) (d : PinPlan) → IsPlan codec format plan → k < length plan.pins
-    → IsOutcome codec format (take k plan.pins) (get_or plan.pins k d).pair (get_or plan.pins k d).pin (get_or plan.pins k d).outcome
-outcome_at codec format plan k d is within = parts.outcome_at codec format [] plan.pins k d is.outcomes within
+pub outcome_at : (kind : PinKind) (codec : RawCodec) (format : Format) (plan : Plan) (k : ℕ) (d : PinPlan) → IsPlanAs kind codec format plan → k < length plan.pins
+    → IsOutcomeAs kind codec format (take k plan.pins) (get_or plan.pins k d).pair (get_or plan.pins k d).pin (get_or plan.pins k d).outcome
+outcome_at kind codec format plan k d is within = parts.outcome_at kind codec format [] plan.pins k d is.outcomes within
 
 -- the hops of a path from a place on lead from some node to the same end
 pub leads_from : (codec : RawCodec) (hops : List Hop) (from to k : ℕ) → LeadsTo codec from hops to → k ≤ length hops → (through : ℕ) × LeadsTo codec through (drop k hops) to

@@ -7,6 +7,7 @@ use Rattle.std.proofs.lemmas.List.Elements.{All-contains, Contains-get_or, Conta
 use Rattle.std.proofs.lemmas.List.Sums.{AllPass-from_list_all, list_all-from_AllPass}
 use Rattle.codec_graph.specs.declared.raw.RawCodec.{RawCodec}
 use Rattle.codec_graph.specs.Widget.{node_at, is_inner}
+use Rattle.route_planner.specs.declared.pin_kind.PinKind.{PinKind}
 use Rattle.route_planner.specs.declared.left.Left.{Left}
 use Rattle.route_planner.specs.declared.routes.Hop.{Hop}
 use Rattle.route_planner.specs.declared.routes.Route.{Route}
@@ -14,8 +15,8 @@ use Rattle.route_planner.specs.declared.routes.Outcome.{Outcome}
 use Rattle.route_planner.specs.declared.routes.Outcome.TheVariants as outcome
 use Rattle.route_planner.specs.declared.routes.PinPlan.{PinPlan}
 use Rattle.stream_format.specs.declared.format.Format.{Format}
-use Rattle.route_planner.specs.Paths.{passes, nodes_of, is_analog_stereo}
-use Rattle.route_planner.specs.Plans.{LeavesOpen, IsOpenPath}
+use Rattle.route_planner.specs.Paths.{passes, nodes_of, can_carry}
+use Rattle.route_planner.specs.Plans.{LeavesOpen, IsOpenPathAs}
 use Rattle.route_planner.specs.Search.{left_at, allows, is_alike, outcome_alike, leaves_alike, outcome_carries, carries_alike, target, is_inner_at, is_end, IsBounded}
 use Rattle.route_planner.specs.Ways.{IsWayOut}
 use Rattle.route_planner.proofs.Bridge.{open_from_way_out, way_out_from_open}
@@ -74,20 +75,20 @@ inner_below codec nid bounded e =
     let there : is_some (node_at codec nid) ≡ true = elim (node_at codec nid) as (λ o. passes is_inner o ≡ true → is_some o ≡ true) [ Some node ↦ λ w. refl | None ↦ λ w. cc ] e in
     omega (arith, bounded.within nid there)
 
-ends_stereo : (codec : RawCodec) (route : Route) → All (λ nid. passes is_analog_stereo (node_at codec nid) ≡ true) (nodes_of route) → passes is_analog_stereo (node_at codec route.converter) ≡ true
-ends_stereo codec route all =
-    All-contains (λ nid. passes is_analog_stereo (node_at codec nid) ≡ true) (nodes_of route) route.converter all (Contains-push (map (λ (hop : Hop). hop.nid) route.hops) route.converter)
+ends_stereo : (kind : PinKind) (codec : RawCodec) (route : Route) → All (λ nid. passes (can_carry kind) (node_at codec nid) ≡ true) (nodes_of route) → passes (can_carry kind) (node_at codec route.converter) ≡ true
+ends_stereo kind codec route all =
+    All-contains (λ nid. passes (can_carry kind) (node_at codec nid) ≡ true) (nodes_of route) route.converter all (Contains-push (map (λ (hop : Hop). hop.nid) route.hops) route.converter)
 
 -- a way out of a pin is an open path
-pub open_path_from_way : (codec : RawCodec) (format : Format) (lefts : List Left) (earlier : List PinPlan) (pair pin : ℕ) → IsBounded codec → AreLefts lefts earlier → (route : Route) → IsWayOut (is_inner_at codec) (target codec lefts) (is_end codec format earlier pair) pin route.hops route.converter → IsOpenPath codec format earlier pair pin route
-open_path_from_way codec format lefts earlier pair pin bounded are route way =
-    let facts = open_from_way_out codec format lefts earlier pair route.hops pin route.converter way in
+pub open_path_from_way : (kind : PinKind) (codec : RawCodec) (format : Format) (lefts : List Left) (earlier : List PinPlan) (pair pin : ℕ) → IsBounded codec → AreLefts lefts earlier → (route : Route) → IsWayOut (is_inner_at codec) (target kind codec lefts) (is_end kind codec format earlier pair) pin route.hops route.converter → IsOpenPathAs kind codec format earlier pair pin route
+open_path_from_way kind codec format lefts earlier pair pin bounded are route way =
+    let facts = open_from_way_out kind codec format lefts earlier pair route.hops pin route.converter way in
     let alike : (hop : Hop) → Contains route.hops hop → passes is_inner (node_at codec hop.nid) ≡ true → list_all (leaves_alike hop.nid hop.index) earlier ≡ true = λ hop has inner.
     sym (are.right hop.nid hop.index (inner_below codec hop.nid bounded inner)) ∙ All-contains (λ (hop : Hop). passes is_inner (node_at codec hop.nid) ≡ true → allows (left_at lefts hop.nid) hop.index ≡ true) route.hops hop facts.0.kept has inner
     in (
       record {
         path = record { leaves_pin = facts.2; leads = facts.0.leads; passes_inner = facts.1; ends = facts.0.ends.0 };
-        analog_stereo = facts.0.stereo;
+        carried = facts.0.stereo;
         left_well = facts.0.well;
         supported = facts.0.ends.2;
       },
@@ -97,16 +98,16 @@ open_path_from_way codec format lefts earlier pair pin bounded are route way =
     )
 
 -- and an open path is a way out
-pub way_from_open_path : (codec : RawCodec) (format : Format) (lefts : List Left) (earlier : List PinPlan) (pair pin : ℕ) → IsBounded codec → AreLefts lefts earlier → (route : Route) → IsOpenPath codec format earlier pair pin route → IsWayOut (is_inner_at codec) (target codec lefts) (is_end codec format earlier pair) pin route.hops route.converter
-way_from_open_path codec format lefts earlier pair pin bounded are route path =
+pub way_from_open_path : (kind : PinKind) (codec : RawCodec) (format : Format) (lefts : List Left) (earlier : List PinPlan) (pair pin : ℕ) → IsBounded codec → AreLefts lefts earlier → (route : Route) → IsOpenPathAs kind codec format earlier pair pin route → IsWayOut (is_inner_at codec) (target kind codec lefts) (is_end kind codec format earlier pair) pin route.hops route.converter
+way_from_open_path kind codec format lefts earlier pair pin bounded are route path =
     let right = path.0 in
-    way_out_from_open codec format lefts earlier pair route.hops pin route.converter record {
+    way_out_from_open kind codec format lefts earlier pair route.hops pin route.converter record {
       leads = right.path.leads;
-      stereo = right.analog_stereo;
+      stereo = right.carried;
       well = right.left_well;
       kept = λ k d within inner.
           let hop = get_or route.hops k d in
           are.right hop.nid hop.index (inner_below codec hop.nid bounded inner) ∙ list_all-from_AllPass (leaves_alike hop.nid hop.index) earlier (λ j e there. open_alike codec route pair (get_or earlier j e).pair (get_or earlier j e).outcome (path.1 j e there) hop (Contains-get_or route.hops k d within) inner);
-      ends = (right.path.ends, ends_stereo codec route right.analog_stereo, right.supported);
+      ends = (right.path.ends, ends_stereo kind codec route right.carried, right.supported);
       carries = list_all-from_AllPass (carries_alike pair route.converter) earlier (λ j e there. open_carries codec route pair (get_or earlier j e).pair (get_or earlier j e).outcome (path.1 j e there));
     } right.path.passes_inner right.path.leaves_pin

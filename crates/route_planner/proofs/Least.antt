@@ -3,6 +3,7 @@ use Rattle.std.proofs.Common.{◌≡◌, ℕ, Bool, true, List, [], ◌∷◌}
 use Rattle.std.proofs.lemmas.Bool.{eqb-true, eq-eqb}
 use Rattle.codec_graph.specs.declared.raw.RawCodec.{RawCodec}
 use Rattle.std.specs.Prelude.{Option}
+use Rattle.route_planner.specs.declared.pin_kind.PinKind.{PinKind}
 use Rattle.route_planner.specs.declared.left.Left.{Left}
 use Rattle.route_planner.specs.declared.routes.Hop.{Hop}
 use Rattle.route_planner.specs.declared.routes.Route.{Route}
@@ -39,18 +40,18 @@ nearest_at_0 inner next end levels from level nearest = record {
   least = nearest.least;
 }
 
-pub least_open_from_way : (codec : RawCodec) (format : Format) (lefts : List Left) (earlier : List PinPlan) (pair pin : ℕ) (levels : List ℕ) (level : ℕ) → IsBounded codec → AreLefts lefts earlier → IsNearest (is_inner_at codec) (target codec lefts) (is_end codec format earlier pair) levels pin level → (route : Route) → IsLeastWay (is_inner_at codec) (target codec lefts) (has_level_0 levels) pin route → IsLeastOpen codec format earlier pair pin route
-least_open_from_way codec format lefts earlier pair pin levels level bounded are nearest route least =
+pub least_open_from_way : (kind : PinKind) (codec : RawCodec) (format : Format) (lefts : List Left) (earlier : List PinPlan) (pair pin : ℕ) (levels : List ℕ) (level : ℕ) → IsBounded codec → AreLefts lefts earlier → IsNearest (is_inner_at codec) (target kind codec lefts) (is_end kind codec format earlier pair) levels pin level → (route : Route) → IsLeastWay (is_inner_at codec) (target kind codec lefts) (has_level_0 levels) pin route → IsLeastOpen kind codec format earlier pair pin route
+least_open_from_way kind codec format lefts earlier pair pin levels level bounded are nearest route least =
     let inner = is_inner_at codec in
-    let next = target codec lefts in
-    let end = is_end codec format earlier pair in
+    let next = target kind codec lefts in
+    let end = is_end kind codec format earlier pair in
     let to_end : (nid : ℕ) → has_level_0 levels nid ≡ true → end nid ≡ true = λ nid e. nearest.right.are_ends nid (eqb-true (level_of levels nid) 0 e) in
     let from_end : (nid : ℕ) → end nid ≡ true → has_level_0 levels nid ≡ true = λ nid e. eq-eqb (level_of levels nid) 0 (nearest.right.at_ends nid e) in
     record {
-      is_open = open_path_from_way codec format lefts earlier pair pin bounded are route (way_out_to inner next (has_level_0 levels) end to_end route.hops pin route.converter least.way);
-      least = λ other path. least.least other.hops other.converter (way_out_to inner next end (has_level_0 levels) from_end other.hops pin other.converter (way_from_open_path codec format lefts earlier pair pin bounded are other path));
+      is_open = open_path_from_way kind codec format lefts earlier pair pin bounded are route (way_out_to inner next (has_level_0 levels) end to_end route.hops pin route.converter least.way);
+      least = λ other path. least.least other.hops other.converter (way_out_to inner next end (has_level_0 levels) from_end other.hops pin other.converter (way_from_open_path kind codec format lefts earlier pair pin bounded are other path));
     }
 
-pub no_open_path_from_none : (codec : RawCodec) (format : Format) (lefts : List Left) (earlier : List PinPlan) (pair pin : ℕ) → IsBounded codec → AreLefts lefts earlier → LeadsToNoEnd (is_inner_at codec) (target codec lefts) (is_end codec format earlier pair) pin → HasNoOpenPath codec format earlier pair pin
-no_open_path_from_none codec format lefts earlier pair pin bounded are none other path =
-    none other.hops other.converter (way_from_open_path codec format lefts earlier pair pin bounded are other path)
+pub no_open_path_from_none : (kind : PinKind) (codec : RawCodec) (format : Format) (lefts : List Left) (earlier : List PinPlan) (pair pin : ℕ) → IsBounded codec → AreLefts lefts earlier → LeadsToNoEnd (is_inner_at codec) (target kind codec lefts) (is_end kind codec format earlier pair) pin → HasNoOpenPath kind codec format earlier pair pin
+no_open_path_from_none kind codec format lefts earlier pair pin bounded are none other path =
+    none other.hops other.converter (way_from_open_path kind codec format lefts earlier pair pin bounded are other path)

@@ -1,3 +1,4 @@
+pub mod KindLemmas
 pub mod LeftLemmas
 pub mod Targets
 pub mod Ends

@@ -6,13 +6,14 @@ use Rattle.std.proofs.lemmas.List.Elements.{All-nil, All-cons, All-head, All-tai
 use Rattle.codec_graph.specs.declared.raw.RawCodec.{RawCodec}
 use Rattle.codec_graph.specs.Widget.{node_at}
 use Rattle.stream_format.specs.declared.format.Format.{Format}
+use Rattle.route_planner.specs.declared.pin_kind.PinKind.{PinKind}
 use Rattle.route_planner.specs.declared.routes.Outcome.{Outcome}
 use Rattle.route_planner.specs.declared.routes.Outcome.TheVariants as outcome
 use Rattle.route_planner.specs.declared.routes.PinPlan.{PinPlan}
 use Rattle.route_planner.specs.declared.routes.Plan.{Plan}
-use Rattle.route_planner.specs.Order.{association_of, sequence_of, comes_before, IsOrder, pair_of}
-use Rattle.route_planner.specs.Plans.{IsOutcome, HaveOutcomes, IsPlan, IsAdmissibleOutcome, HasAdmissibleRoutes}
-use Rattle.route_planner.specs.Laws.{IsOnlyPlan}
+use Rattle.route_planner.specs.Order.{association_of, sequence_of, comes_before, IsOrderAs, pair_as}
+use Rattle.route_planner.specs.Plans.{IsOutcomeAs, HaveOutcomesAs, IsPlanAs, IsAdmissibleOutcomeAs, HasAdmissibleRoutesAs}
+use Rattle.route_planner.specs.Laws.{IsOnlyPlanAs}
 use Rattle.route_planner.proofs.Unique.{least_is_one}
 
 abbrev before : ℕ → ℕ → ℕ → ℕ → ℕ → ℕ → Bool
@@ -66,20 +67,20 @@ same_list R asym (x ∷ xs) (y ∷ ys) up_x up_y there back =
     in
     cc
 
-pub same_order : (codec : RawCodec) (xs ys : List ℕ) → IsOrder codec xs → IsOrder codec ys → xs ≡ ys
-same_order codec xs ys one other =
+pub same_order : (kind : PinKind) (codec : RawCodec) (xs ys : List ℕ) → IsOrderAs kind codec xs → IsOrderAs kind codec ys → xs ≡ ys
+same_order kind codec xs ys one other =
     same_list (λ pin other. comes_before codec pin other ≡ true) (asymmetric codec) xs ys one.ascending other.ascending (λ z has. (other.exactly z).1 ((one.exactly z).0 has)) (λ z has. (one.exactly z).1 ((other.exactly z).0 has))
 
-same_outcome : (codec : RawCodec) (format : Format) (earlier : List PinPlan) (pair pin : ℕ) (o p : Outcome) → IsOutcome codec format earlier pair pin o → IsOutcome codec format earlier pair pin p → o ≡ p
-same_outcome codec format earlier pair pin (outcome.Route one) (outcome.Route other) is twin = ap outcome.Route (least_is_one codec format earlier pair pin one other is twin)
-same_outcome codec format earlier pair pin (outcome.Route one) outcome.Blocked is twin = absurd (twin.1 one is.0)
-same_outcome codec format earlier pair pin (outcome.Route one) outcome.NoPath is twin = absurd (twin one is.0.0)
-same_outcome codec format earlier pair pin outcome.Blocked (outcome.Route other) is twin = absurd (is.1 other twin.0)
-same_outcome codec format earlier pair pin outcome.Blocked outcome.Blocked is twin = refl
-same_outcome codec format earlier pair pin outcome.Blocked outcome.NoPath is twin = absurd (twin is.0.0 is.0.1)
-same_outcome codec format earlier pair pin outcome.NoPath (outcome.Route other) is twin = absurd (is other twin.0.0)
-same_outcome codec format earlier pair pin outcome.NoPath outcome.Blocked is twin = absurd (is twin.0.0 twin.0.1)
-same_outcome codec format earlier pair pin outcome.NoPath outcome.NoPath is twin = refl
+same_outcome : (kind : PinKind) (codec : RawCodec) (format : Format) (earlier : List PinPlan) (pair pin : ℕ) (o p : Outcome) → IsOutcomeAs kind codec format earlier pair pin o → IsOutcomeAs kind codec format earlier pair pin p → o ≡ p
+same_outcome kind codec format earlier pair pin (outcome.Route one) (outcome.Route other) is twin = ap outcome.Route (least_is_one kind codec format earlier pair pin one other is twin)
+same_outcome kind codec format earlier pair pin (outcome.Route one) outcome.Blocked is twin = absurd (twin.1 one is.0)
+same_outcome kind codec format earlier pair pin (outcome.Route one) outcome.NoPath is twin = absurd (twin one is.0.0)
+same_outcome kind codec format earlier pair pin outcome.Blocked (outcome.Route other) is twin = absurd (is.1 other twin.0)
+same_outcome kind codec format earlier pair pin outcome.Blocked outcome.Blocked is twin = refl
+same_outcome kind codec format earlier pair pin outcome.Blocked outcome.NoPath is twin = absurd (twin is.0.0 is.0.1)
+same_outcome kind codec format earlier pair pin outcome.NoPath (outcome.Route other) is twin = absurd (is other twin.0.0)
+same_outcome kind codec format earlier pair pin outcome.NoPath outcome.Blocked is twin = absurd (is twin.0.0 twin.0.1)
+same_outcome kind codec format earlier pair pin outcome.NoPath outcome.NoPath is twin = refl
 
 abbrev entry_of : ℕ → ℕ → Outcome → PinPlan
 entry_of pin pair o = record { pin = pin; pair = pair; outcome = o }
@@ -90,38 +91,38 @@ same_entry one other pin pair o = let whole : entry_of one.pin one.pair one.outc
 abbrev pins_of : List PinPlan → List ℕ
 pins_of entries = map (λ (entry : PinPlan). entry.pin) entries
 
-same_entries : (codec : RawCodec) (format : Format) (earlier entries others : List PinPlan) → pins_of entries ≡ pins_of others → All (λ (entry : PinPlan). entry.pair ≡ pair_of codec format.channels entry.pin) entries → All (λ (entry : PinPlan). entry.pair ≡ pair_of codec format.channels entry.pin) others → HaveOutcomes codec format earlier entries → HaveOutcomes codec format earlier others → entries ≡ others
-same_entries codec format earlier [] [] pins pairs twins have had = refl
-same_entries codec format earlier [] (other ∷ others) pins pairs twins have had = cc
-same_entries codec format earlier (entry ∷ entries) [] pins pairs twins have had = cc
-same_entries codec format earlier (entry ∷ entries) (other ∷ others) pins pairs twins have had =
+same_entries : (kind : PinKind) (codec : RawCodec) (format : Format) (earlier entries others : List PinPlan) → pins_of entries ≡ pins_of others → All (λ (entry : PinPlan). entry.pair ≡ pair_as kind codec format.channels entry.pin) entries → All (λ (entry : PinPlan). entry.pair ≡ pair_as kind codec format.channels entry.pin) others → HaveOutcomesAs kind codec format earlier entries → HaveOutcomesAs kind codec format earlier others → entries ≡ others
+same_entries kind codec format earlier [] [] pins pairs twins have had = refl
+same_entries kind codec format earlier [] (other ∷ others) pins pairs twins have had = cc
+same_entries kind codec format earlier (entry ∷ entries) [] pins pairs twins have had = cc
+same_entries kind codec format earlier (entry ∷ entries) (other ∷ others) pins pairs twins have had =
     let pin : entry.pin ≡ other.pin = cc in
     let rest_pins : pins_of entries ≡ pins_of others = cc in
-    let paired = All-head (λ (entry : PinPlan). entry.pair ≡ pair_of codec format.channels entry.pin) entry entries pairs in
-    let twinned = All-head (λ (entry : PinPlan). entry.pair ≡ pair_of codec format.channels entry.pin) other others twins in
-    let pair : entry.pair ≡ other.pair = paired ∙ (ap (pair_of codec format.channels) pin ∙ sym twinned) in
-    let had_here = subst (λ (n : ℕ). IsOutcome codec format earlier entry.pair n other.outcome) (sym pin) (subst (λ (n : ℕ). IsOutcome codec format earlier n other.pin other.outcome) (sym pair) had.0) in
-    let same = same_entry entry other pin pair (same_outcome codec format earlier entry.pair entry.pin entry.outcome other.outcome have.0 had_here) in
-    let had_rest = subst (λ (e : PinPlan). HaveOutcomes codec format (earlier ++ e ∷ []) others) (sym same) had.1 in
-    let rest = same_entries codec format (earlier ++ entry ∷ []) entries others rest_pins (All-tail (λ (entry : PinPlan). entry.pair ≡ pair_of codec format.channels entry.pin) entry entries pairs) (All-tail (λ (entry : PinPlan). entry.pair ≡ pair_of codec format.channels entry.pin) other others twins) have.1 had_rest in
+    let paired = All-head (λ (entry : PinPlan). entry.pair ≡ pair_as kind codec format.channels entry.pin) entry entries pairs in
+    let twinned = All-head (λ (entry : PinPlan). entry.pair ≡ pair_as kind codec format.channels entry.pin) other others twins in
+    let pair : entry.pair ≡ other.pair = paired ∙ (ap (pair_as kind codec format.channels) pin ∙ sym twinned) in
+    let had_here = subst (λ (n : ℕ). IsOutcomeAs kind codec format earlier entry.pair n other.outcome) (sym pin) (subst (λ (n : ℕ). IsOutcomeAs kind codec format earlier n other.pin other.outcome) (sym pair) had.0) in
+    let same = same_entry entry other pin pair (same_outcome kind codec format earlier entry.pair entry.pin entry.outcome other.outcome have.0 had_here) in
+    let had_rest = subst (λ (e : PinPlan). HaveOutcomesAs kind codec format (earlier ++ e ∷ []) others) (sym same) had.1 in
+    let rest = same_entries kind codec format (earlier ++ entry ∷ []) entries others rest_pins (All-tail (λ (entry : PinPlan). entry.pair ≡ pair_as kind codec format.channels entry.pin) entry entries pairs) (All-tail (λ (entry : PinPlan). entry.pair ≡ pair_as kind codec format.channels entry.pin) other others twins) have.1 had_rest in
     cc
 
 abbrev plan_of : List PinPlan → Plan
 plan_of pins = record { pins = pins }
 
-pub only_plan : (codec : RawCodec) (format : Format) (plan : Plan) → IsPlan codec format plan → IsOnlyPlan codec format plan
-only_plan codec format plan is other twin =
-    ap plan_of (same_entries codec format [] other.pins plan.pins (same_order codec (pins_of other.pins) (pins_of plan.pins) twin.pins.in_order is.pins.in_order) twin.pins.pairs is.pins.pairs twin.outcomes is.outcomes)
+pub only_plan : (kind : PinKind) (codec : RawCodec) (format : Format) (plan : Plan) → IsPlanAs kind codec format plan → IsOnlyPlanAs kind codec format plan
+only_plan kind codec format plan is other twin =
+    ap plan_of (same_entries kind codec format [] other.pins plan.pins (same_order kind codec (pins_of other.pins) (pins_of plan.pins) twin.pins.in_order is.pins.in_order) twin.pins.pairs is.pins.pairs twin.outcomes is.outcomes)
 
-admissible_outcome : (codec : RawCodec) (format : Format) (earlier : List PinPlan) (pair pin : ℕ) (o : Outcome) → IsOutcome codec format earlier pair pin o → IsAdmissibleOutcome codec format pin o
-admissible_outcome codec format earlier pair pin (outcome.Route route) is = is.0.0
-admissible_outcome codec format earlier pair pin outcome.Blocked is = tt
-admissible_outcome codec format earlier pair pin outcome.NoPath is = tt
+admissible_outcome : (kind : PinKind) (codec : RawCodec) (format : Format) (earlier : List PinPlan) (pair pin : ℕ) (o : Outcome) → IsOutcomeAs kind codec format earlier pair pin o → IsAdmissibleOutcomeAs kind codec format pin o
+admissible_outcome kind codec format earlier pair pin (outcome.Route route) is = is.0.0
+admissible_outcome kind codec format earlier pair pin outcome.Blocked is = tt
+admissible_outcome kind codec format earlier pair pin outcome.NoPath is = tt
 
-pub admissible_entries : (codec : RawCodec) (format : Format) (earlier entries : List PinPlan) → HaveOutcomes codec format earlier entries → All (λ (entry : PinPlan). IsAdmissibleOutcome codec format entry.pin entry.outcome) entries
-admissible_entries codec format earlier [] have = All-nil (λ (entry : PinPlan). IsAdmissibleOutcome codec format entry.pin entry.outcome)
-admissible_entries codec format earlier (entry ∷ entries) have =
-    All-cons (λ (entry : PinPlan). IsAdmissibleOutcome codec format entry.pin entry.outcome) entry entries (admissible_outcome codec format earlier entry.pair entry.pin entry.outcome have.0) (admissible_entries codec format (earlier ++ entry ∷ []) entries have.1)
+pub admissible_entries : (kind : PinKind) (codec : RawCodec) (format : Format) (earlier entries : List PinPlan) → HaveOutcomesAs kind codec format earlier entries → All (λ (entry : PinPlan). IsAdmissibleOutcomeAs kind codec format entry.pin entry.outcome) entries
+admissible_entries kind codec format earlier [] have = All-nil (λ (entry : PinPlan). IsAdmissibleOutcomeAs kind codec format entry.pin entry.outcome)
+admissible_entries kind codec format earlier (entry ∷ entries) have =
+    All-cons (λ (entry : PinPlan). IsAdmissibleOutcomeAs kind codec format entry.pin entry.outcome) entry entries (admissible_outcome kind codec format earlier entry.pair entry.pin entry.outcome have.0) (admissible_entries kind codec format (earlier ++ entry ∷ []) entries have.1)
 
-pub admissible_routes : (codec : RawCodec) (format : Format) (plan : Plan) → IsPlan codec format plan → HasAdmissibleRoutes codec format plan
-admissible_routes codec format plan is = record { pins = is.pins; admissible = admissible_entries codec format [] plan.pins is.outcomes }
+pub admissible_routes : (kind : PinKind) (codec : RawCodec) (format : Format) (plan : Plan) → IsPlanAs kind codec format plan → HasAdmissibleRoutesAs kind codec format plan
+admissible_routes kind codec format plan is = record { pins = is.pins; admissible = admissible_entries kind codec format [] plan.pins is.outcomes }

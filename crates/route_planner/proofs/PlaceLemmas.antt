@@ -1,23 +1,25 @@
 -- The places of the candidates while they are gathered.
 use Rattle.std.proofs.Common.{◌≡◌, ◌≢◌, ◌<◌, ◌≤◌, ◌+◌, ℕ, true, false, List, [], ◌∷◌, ◌++◌, get_or, Some, None, refl, sym, ap, subst, ◌∙◌, inl, inr, arith}
-use Rattle.std.specs.Prelude.{All, AllPairs, Contains, is_some}
+use Rattle.std.specs.Prelude.{All, AllPairs, Contains}
 use Rattle.std.proofs.lemmas.Bool.{cases_eq, false≢true}
 use Rattle.std.proofs.lemmas.List.Elements.{All-push, All-nil, Contains-push, Contains-push_cases, Contains-append_left, Contains-get_or}
 use Rattle.std.proofs.lemmas.List.Quantifiers.{all_pairs_push}
 use Rattle.codec_graph.specs.declared.raw.RawCodec.{RawCodec}
 use Rattle.codec_graph.specs.Widget.{node_at}
-use Rattle.codec_graph.specs.Candidates.{is_candidate_at, is_candidate}
+use Rattle.route_planner.specs.Kinds.{is_candidate_as}
+use Rattle.route_planner.specs.declared.pin_kind.PinKind.{PinKind}
 use Rattle.route_planner.specs.declared.pin_order.Place.{Place}
 use Rattle.route_planner.specs.Search.{IsBounded}
 use Rattle.route_planner.specs.Places.{IsPlace, IsPlaceOf, nids, ArePlaces}
+use Rattle.route_planner.proofs.KindLemmas.{candidate_there}
 
 -- the places are those of the candidates below a node, each once
-pub record ArePlacesBelow (codec : RawCodec) (places : List Place) (nid : ℕ) : Type 0 where
+pub record ArePlacesBelow (kind : PinKind) (codec : RawCodec) (places : List Place) (nid : ℕ) : Type 0 where
   pub each : All (IsPlace codec) places
   pub once : AllPairs (λ one other. one ≢ other) (nids places)
   pub low : (other : ℕ) → Contains (nids places) other → other < nid
-  pub sound : (other : ℕ) → Contains (nids places) other → is_candidate codec other ≡ true
-  pub complete : (other : ℕ) → other < nid → is_candidate codec other ≡ true → Contains (nids places) other
+  pub sound : (other : ℕ) → Contains (nids places) other → is_candidate_as kind codec other ≡ true
+  pub complete : (other : ℕ) → other < nid → is_candidate_as kind codec other ≡ true → Contains (nids places) other
 
 nids-push : (places : List Place) (place : Place) → nids (places ++ place ∷ []) ≡ nids places ++ place.nid ∷ []
 nids-push [] place = refl
@@ -26,8 +28,8 @@ nids-push (first ∷ places) place = ap (λ rest. first.nid ∷ rest) (nids-push
 nothing_there : (x : ℕ) → Contains [] x → ⊥
 nothing_there x h = omega (arith, h.1)
 
-pub ArePlacesBelow-none : (codec : RawCodec) → ArePlacesBelow codec [] 0
-ArePlacesBelow-none codec = record {
+pub ArePlacesBelow-none : (kind : PinKind) (codec : RawCodec) → ArePlacesBelow kind codec [] 0
+ArePlacesBelow-none kind codec = record {
   each = All-nil (IsPlace codec);
   once = λ i j d l h. absurd (omega arith);
   low = λ other h. absurd (nothing_there other h);
@@ -35,8 +37,8 @@ ArePlacesBelow-none codec = record {
   complete = λ other h. absurd (omega arith);
 }
 
-pub ArePlacesBelow-yes : (codec : RawCodec) (places : List Place) (nid : ℕ) (place : Place) → ArePlacesBelow codec places nid → IsPlaceOf codec nid place → ArePlacesBelow codec (places ++ place ∷ []) (nid + 1)
-ArePlacesBelow-yes codec places nid place before new_place =
+pub ArePlacesBelow-yes : (kind : PinKind) (codec : RawCodec) (places : List Place) (nid : ℕ) (place : Place) → ArePlacesBelow kind codec places nid → IsPlaceOf kind codec nid place → ArePlacesBelow kind codec (places ++ place ∷ []) (nid + 1)
+ArePlacesBelow-yes kind codec places nid place before new_place =
     let of_nid : place.nid ≡ nid = new_place.of_nid in
     let pushed = nids-push places place in
     let split : (other : ℕ) → Contains (nids (places ++ place ∷ [])) other → Contains (nids places ++ place.nid ∷ []) other = λ other h. subst (λ (xs : List ℕ). Contains xs other) pushed h in
@@ -47,7 +49,7 @@ ArePlacesBelow-yes codec places nid place before new_place =
       low = λ other h. elim (Contains-push_cases (nids places) place.nid other (split other h)) [ inl old ↦ omega (arith, before.low other old) | inr new ↦ omega (arith, of_nid) ];
       sound = λ other h. elim (Contains-push_cases (nids places) place.nid other (split other h)) [
         | inl old ↦ before.sound other old
-        | inr new ↦ subst (λ (n : ℕ). is_candidate codec n ≡ true) (sym of_nid ∙ new) new_place.is
+        | inr new ↦ subst (λ (n : ℕ). is_candidate_as kind codec n ≡ true) (sym of_nid ∙ new) new_place.is
       ];
       complete = λ other h e. elim (cases_eq other nid) [
         | inl same ↦ join other (subst (λ (n : ℕ). Contains (nids places ++ place.nid ∷ []) n) (of_nid ∙ sym same) (Contains-push (nids places) place.nid))
@@ -55,26 +57,26 @@ ArePlacesBelow-yes codec places nid place before new_place =
       ];
     }
 
-pub ArePlacesBelow-no : (codec : RawCodec) (places : List Place) (nid : ℕ) → ArePlacesBelow codec places nid → is_candidate codec nid ≡ false → ArePlacesBelow codec places (nid + 1)
-ArePlacesBelow-no codec places nid before is = record {
+pub ArePlacesBelow-no : (kind : PinKind) (codec : RawCodec) (places : List Place) (nid : ℕ) → ArePlacesBelow kind codec places nid → is_candidate_as kind codec nid ≡ false → ArePlacesBelow kind codec places (nid + 1)
+ArePlacesBelow-no kind codec places nid before is = record {
   each = before.each;
   once = before.once;
   low = λ other h. omega (arith, before.low other h);
   sound = before.sound;
   complete = λ other h e. elim (cases_eq other nid) [
-    | inl same ↦ absurd (false≢true (sym is ∙ subst (λ (n : ℕ). is_candidate codec n ≡ true) same e))
+    | inl same ↦ absurd (false≢true (sym is ∙ subst (λ (n : ℕ). is_candidate_as kind codec n ≡ true) same e))
     | inr ne ↦ before.complete other (omega arith) e
   ];
 }
 
 -- a candidate has a node identifier below 128
-is_candidate-below : (codec : RawCodec) (nid : ℕ) → IsBounded codec → is_candidate codec nid ≡ true → nid < 128
-is_candidate-below codec nid bounded e =
-    bounded.within nid (elim (node_at codec nid) as (λ o. is_candidate_at o ≡ true → is_some o ≡ true) [ Some node ↦ λ w. refl | None ↦ λ w. cc ] e)
+is_candidate-below : (kind : PinKind) (codec : RawCodec) (nid : ℕ) → IsBounded codec → is_candidate_as kind codec nid ≡ true → nid < 128
+is_candidate-below kind codec nid bounded e =
+    bounded.within nid (candidate_there kind (node_at codec nid) e)
 
-pub ArePlaces-all : (codec : RawCodec) (places : List Place) (nid : ℕ) → IsBounded codec → 128 ≤ nid → ArePlacesBelow codec places nid → ArePlaces codec places
-ArePlaces-all codec places nid bounded all before = record {
+pub ArePlaces-all : (kind : PinKind) (codec : RawCodec) (places : List Place) (nid : ℕ) → IsBounded codec → 128 ≤ nid → ArePlacesBelow kind codec places nid → ArePlaces kind codec places
+ArePlaces-all kind codec places nid bounded all before = record {
   each = before.each;
   once = before.once;
-  exactly = λ other. (before.sound other, λ e. before.complete other (omega (arith, is_candidate-below codec other bounded e)) e);
+  exactly = λ other. (before.sound other, λ e. before.complete other (omega (arith, is_candidate-below kind codec other bounded e)) e);
 }

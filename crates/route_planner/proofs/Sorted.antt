@@ -12,9 +12,10 @@ use Rattle.std.proofs.lemmas.Map.Keys.{IsDistinct-IsPermutation}
 use Rattle.std.proofs.lemmas.Map.Made.{AllPairs-from_IsDistinct, IsDistinct-from_AllPairs}
 use Rattle.codec_graph.specs.declared.raw.RawCodec.{RawCodec}
 use Rattle.codec_graph.specs.Widget.{node_at}
+use Rattle.route_planner.specs.declared.pin_kind.PinKind.{PinKind}
 use Rattle.route_planner.specs.declared.pin_order.Place.{Place}
 use Rattle.route_planner.specs.contracts.pin_order.PlaceOrd.TheImpl.Laws as laws
-use Rattle.route_planner.specs.Order.{association_of, sequence_of, comes_before, IsOrder}
+use Rattle.route_planner.specs.Order.{association_of, sequence_of, comes_before, IsOrderAs}
 use Rattle.route_planner.specs.Places.{IsPlace, nids, ArePlaces}
 
 abbrev is_less : Place → Place → Bool
@@ -38,8 +39,8 @@ distinct_after : (places sorted : List Place) → IsPermutation places sorted �
 distinct_after places sorted moved once =
     AllPairs-from_IsDistinct Decides-eqb (nids sorted) (IsDistinct-IsPermutation nat_eq same_keys (nids places) (nids sorted) (IsPermutation-map (λ (place : Place). place.nid) places sorted moved) (IsDistinct-from_AllPairs Decides-eqb (nids places) once))
 
-pub IsOrder-sorted : (codec : RawCodec) (places sorted : List Place) → ArePlaces codec places → IsPermutation places sorted → IsSortedBy is_less sorted → IsOrder codec (nids sorted)
-IsOrder-sorted codec places sorted are moved up =
+pub IsOrder-sorted : (kind : PinKind) (codec : RawCodec) (places sorted : List Place) → ArePlaces kind codec places → IsPermutation places sorted → IsSortedBy is_less sorted → IsOrderAs kind codec (nids sorted)
+IsOrder-sorted kind codec places sorted are moved up =
     let each = All-permutation (IsPlace codec) places sorted moved are.each in
     let once = distinct_after places sorted moved are.once in
     let moved_nids = IsPermutation-map (λ (place : Place). place.nid) places sorted moved in

@@ -7,14 +7,15 @@ use Rattle.std.proofs.lemmas.List.Elements.{All-nil, Contains-get_or, Contains-a
 use Rattle.std.proofs.lemmas.List.Sums.{list_all-from_AllPass}
 use Rattle.codec_graph.specs.declared.raw.RawCodec.{RawCodec}
 use Rattle.codec_graph.specs.Widget.{node_at, is_inner}
+use Rattle.route_planner.specs.declared.pin_kind.PinKind.{PinKind}
 use Rattle.route_planner.specs.declared.routes.Hop.{Hop}
 use Rattle.route_planner.specs.declared.routes.Route.{Route}
 use Rattle.route_planner.specs.declared.routes.Outcome.{Outcome}
 use Rattle.route_planner.specs.declared.routes.Outcome.TheVariants as outcome
 use Rattle.route_planner.specs.declared.routes.PinPlan.{PinPlan}
 use Rattle.stream_format.specs.declared.format.Format.{Format}
-use Rattle.route_planner.specs.Paths.{passes, IsAdmissible}
-use Rattle.route_planner.specs.Plans.{IsOpenPath}
+use Rattle.route_planner.specs.Paths.{passes, IsAdmissibleAs}
+use Rattle.route_planner.specs.Plans.{IsOpenPathAs}
 use Rattle.route_planner.specs.Search.{left_at, allows, is_alike, outcome_carries, carries_alike, target, is_inner_at, is_end, IsBounded}
 use Rattle.route_planner.specs.Ways.{IsWay}
 use Rattle.route_planner.proofs.Bridge.{target-parts, target-made, can_leave-parts, can_leave-made, is_end-parts, is_end-made, as_inner}
@@ -23,16 +24,16 @@ use Rattle.route_planner.proofs.Tables.{all_hops, all_alike, table_of, AreLefts-
 use Rattle.route_planner.proofs.Cuts.{drop_way_out, change_way_out, other_way_out}
 
 -- the routes of the entries are paths that leave each shared node alike, and carry one pair
-pub record AreOneWay (codec : RawCodec) (format : Format) (pair : ℕ) (entries : List PinPlan) : Type 0 where
+pub record AreOneWay (kind : PinKind) (codec : RawCodec) (format : Format) (pair : ℕ) (entries : List PinPlan) : Type 0 where
   pub alike : (hop twin : Hop) → Contains (all_hops entries) hop → Contains (all_hops entries) twin → hop.nid ≡ twin.nid → is_inner_at codec hop.nid ≡ true → hop.index ≡ twin.index
-  pub owned : (hop : Hop) → Contains (all_hops entries) hop → (route : Route) × (pin : ℕ) × IsAdmissible codec format pin route × Contains route.hops hop × ((twin : Hop) → Contains route.hops twin → Contains (all_hops entries) twin)
+  pub owned : (hop : Hop) → Contains (all_hops entries) hop → (route : Route) × (pin : ℕ) × IsAdmissibleAs kind codec format pin route × Contains route.hops hop × ((twin : Hop) → Contains route.hops twin → Contains (all_hops entries) twin)
   pub pairs : All (λ (entry : PinPlan). entry.pair ≡ pair) entries
 
 nothing_there : {X : Type 0} (x : X) → Contains [] x → ⊥
 nothing_there x has = omega (arith, has.1)
 
-pub AreOneWay-none : (codec : RawCodec) (format : Format) (pair : ℕ) → AreOneWay codec format pair []
-AreOneWay-none codec format pair = record {
+pub AreOneWay-none : (kind : PinKind) (codec : RawCodec) (format : Format) (pair : ℕ) → AreOneWay kind codec format pair []
+AreOneWay-none kind codec format pair = record {
   alike = λ hop twin has. absurd (nothing_there hop has);
   owned = λ hop has. absurd (nothing_there hop has);
   pairs = All-nil (λ (entry : PinPlan). entry.pair ≡ pair);
@@ -65,55 +66,55 @@ find_hop nid (first ∷ hops) =
     ]
 
 -- a connection that is allowed on its own is allowed beside hops that leave the node alike
-allowed_beside : (codec : RawCodec) (entries : List PinPlan) (nid index n : ℕ) → IsBounded codec → (is_inner_at codec nid ≡ true → list_all (is_alike nid index) (all_hops entries) ≡ true) → target codec (table_of []) nid index ≡ Some n → target codec (table_of entries) nid index ≡ Some n
-allowed_beside codec entries nid index n bounded alike leads =
-    let parts = target-parts codec (table_of []) nid index n leads in
-    let can = can_leave-parts codec (left_at (table_of []) nid) index (node_at codec nid) parts.0 in
+allowed_beside : (kind : PinKind) (codec : RawCodec) (entries : List PinPlan) (nid index n : ℕ) → IsBounded codec → (is_inner_at codec nid ≡ true → list_all (is_alike nid index) (all_hops entries) ≡ true) → target kind codec (table_of []) nid index ≡ Some n → target kind codec (table_of entries) nid index ≡ Some n
+allowed_beside kind codec entries nid index n bounded alike leads =
+    let parts = target-parts kind codec (table_of []) nid index n leads in
+    let can = can_leave-parts kind codec (left_at (table_of []) nid) index (node_at codec nid) parts.0 in
     let are : AreLefts (table_of entries) entries = AreLefts-table entries in
     let allows_it : passes is_inner (node_at codec nid) ≡ true → allows (left_at (table_of entries) nid) index ≡ true = λ inner.
     are.right nid index (inner_below codec nid bounded inner) ∙ (all_alike nid index entries ∙ alike (as_inner codec nid inner))
     in
-    target-made codec (table_of entries) nid index n (can_leave-made codec (left_at (table_of entries) nid) index (node_at codec nid) (can.0, can.1, allows_it)) parts.1
+    target-made kind codec (table_of entries) nid index n (can_leave-made kind codec (left_at (table_of entries) nid) index (node_at codec nid) (can.0, can.1, allows_it)) parts.1
 
 -- the ends stay ends where all carry one pair
-ends_beside : (codec : RawCodec) (format : Format) (pair : ℕ) (entries : List PinPlan) → All (λ (entry : PinPlan). entry.pair ≡ pair) entries → (nid : ℕ) → is_end codec format [] pair nid ≡ true → is_end codec format entries pair nid ≡ true
-ends_beside codec format pair entries pairs nid e =
-    let parts = is_end-parts codec format [] pair nid e in
-    is_end-made codec format entries pair nid parts.0 (list_all-from_AllPass (carries_alike pair nid) entries (λ k d within. carries pair nid (get_or entries k d) (pairs k d within)))
+ends_beside : (kind : PinKind) (codec : RawCodec) (format : Format) (pair : ℕ) (entries : List PinPlan) → All (λ (entry : PinPlan). entry.pair ≡ pair) entries → (nid : ℕ) → is_end kind codec format [] pair nid ≡ true → is_end kind codec format entries pair nid ≡ true
+ends_beside kind codec format pair entries pairs nid e =
+    let parts = is_end-parts kind codec format [] pair nid e in
+    is_end-made kind codec format entries pair nid parts.0 (list_all-from_AllPass (carries_alike pair nid) entries (λ k d within. carries pair nid (get_or entries k d) (pairs k d within)))
 
-alike_in : (codec : RawCodec) (format : Format) (pair : ℕ) (entries : List PinPlan) → AreOneWay codec format pair entries → (hop : Hop) → Contains (all_hops entries) hop → is_inner_at codec hop.nid ≡ true → list_all (is_alike hop.nid hop.index) (all_hops entries) ≡ true
-alike_in codec format pair entries are hop has inner =
+alike_in : (kind : PinKind) (codec : RawCodec) (format : Format) (pair : ℕ) (entries : List PinPlan) → AreOneWay kind codec format pair entries → (hop : Hop) → Contains (all_hops entries) hop → is_inner_at codec hop.nid ≡ true → list_all (is_alike hop.nid hop.index) (all_hops entries) ≡ true
+alike_in kind codec format pair entries are hop has inner =
     list_all-from_AllPass (is_alike hop.nid hop.index) (all_hops entries) (λ k d within. alike_made hop.nid hop.index (get_or (all_hops entries) k d) (λ same. are.alike hop (get_or (all_hops entries) k d) has (Contains-get_or (all_hops entries) k d within) same inner))
 
-open_alone : (codec : RawCodec) (format : Format) (pair pin : ℕ) (route : Route) → IsAdmissible codec format pin route → IsOpenPath codec format [] pair pin route
-open_alone codec format pair pin route right = (right, λ k d within. absurd (omega arith))
+open_alone : (kind : PinKind) (codec : RawCodec) (format : Format) (pair pin : ℕ) (route : Route) → IsAdmissibleAs kind codec format pin route → IsOpenPathAs kind codec format [] pair pin route
+open_alone kind codec format pair pin route right = (right, λ k d within. absurd (omega arith))
 
 -- the way of an earlier route goes on from each node that it leaves
-goes_on : (codec : RawCodec) (format : Format) (pair : ℕ) (entries : List PinPlan) → IsBounded codec → AreOneWay codec format pair entries → (hop : Hop) → Contains (all_hops entries) hop → is_inner_at codec hop.nid ≡ true → (hops : List Hop) × (to : ℕ) × IsWay (is_inner_at codec) (target codec (table_of entries)) (is_end codec format entries pair) hop.nid hops to
-goes_on codec format pair entries bounded are hop has inner =
+goes_on : (kind : PinKind) (codec : RawCodec) (format : Format) (pair : ℕ) (entries : List PinPlan) → IsBounded codec → AreOneWay kind codec format pair entries → (hop : Hop) → Contains (all_hops entries) hop → is_inner_at codec hop.nid ≡ true → (hops : List Hop) × (to : ℕ) × IsWay (is_inner_at codec) (target kind codec (table_of entries)) (is_end kind codec format entries pair) hop.nid hops to
+goes_on kind codec format pair entries bounded are hop has inner =
     let own = are.owned hop has in
     let route = own.0 in
-    let alone = way_from_open_path codec format (table_of []) [] pair own.1 bounded (AreLefts-table []) route (open_alone codec format pair own.1 route own.2) in
-    let beside = other_way_out (is_inner_at codec) (target codec (table_of [])) (target codec (table_of entries)) (is_end codec format [] pair) (is_end codec format entries pair) (ends_beside codec format pair entries are.pairs) route.hops own.1 route.converter (λ twin there n leads. allowed_beside codec entries twin.nid twin.index n bounded (λ inn. alike_in codec format pair entries are twin (own.4 twin there) inn) leads) alone in
+    let alone = way_from_open_path kind codec format (table_of []) [] pair own.1 bounded (AreLefts-table []) route (open_alone kind codec format pair own.1 route own.2) in
+    let beside = other_way_out (is_inner_at codec) (target kind codec (table_of [])) (target kind codec (table_of entries)) (is_end kind codec format [] pair) (is_end kind codec format entries pair) (ends_beside kind codec format pair entries are.pairs) route.hops own.1 route.converter (λ twin there n leads. allowed_beside kind codec entries twin.nid twin.index n bounded (λ inn. alike_in kind codec format pair entries are twin (own.4 twin there) inn) leads) alone in
     let at : get_or route.hops own.3.0 hop ≡ hop = own.3.2 in
     let nid : (get_or route.hops own.3.0 hop).nid ≡ hop.nid = ap (λ (h : Hop). h.nid) at in
-    let rest = drop_way_out (is_inner_at codec) (target codec (table_of entries)) (is_end codec format entries pair) route.hops own.3.0 hop own.1 route.converter own.3.1 (ap (is_inner_at codec) nid ∙ inner) beside in
-    (drop own.3.0 route.hops, route.converter, subst (λ (n : ℕ). IsWay (is_inner_at codec) (target codec (table_of entries)) (is_end codec format entries pair) n (drop own.3.0 route.hops) route.converter) nid rest)
+    let rest = drop_way_out (is_inner_at codec) (target kind codec (table_of entries)) (is_end kind codec format entries pair) route.hops own.3.0 hop own.1 route.converter own.3.1 (ap (is_inner_at codec) nid ∙ inner) beside in
+    (drop own.3.0 route.hops, route.converter, subst (λ (n : ℕ). IsWay (is_inner_at codec) (target kind codec (table_of entries)) (is_end kind codec format entries pair) n (drop own.3.0 route.hops) route.converter) nid rest)
 
 -- a pin that has an admissible path has an open one
-pub open_path_exists : (codec : RawCodec) (format : Format) (pair : ℕ) (entries : List PinPlan) (pin : ℕ) → IsBounded codec → AreOneWay codec format pair entries → (is_inner_at codec pin ≡ true → ⊥) → (some : Route) → IsAdmissible codec format pin some → (route : Route) × IsOpenPath codec format entries pair pin route
-open_path_exists codec format pair entries pin bounded are outer some right =
+pub open_path_exists : (kind : PinKind) (codec : RawCodec) (format : Format) (pair : ℕ) (entries : List PinPlan) (pin : ℕ) → IsBounded codec → AreOneWay kind codec format pair entries → (is_inner_at codec pin ≡ true → ⊥) → (some : Route) → IsAdmissibleAs kind codec format pin some → (route : Route) × IsOpenPathAs kind codec format entries pair pin route
+open_path_exists kind codec format pair entries pin bounded are outer some right =
     let inner = is_inner_at codec in
-    let end = is_end codec format entries pair in
-    let alone = way_from_open_path codec format (table_of []) [] pair pin bounded (AreLefts-table []) some (open_alone codec format pair pin some right) in
-    let each : (nid : ℕ) → inner nid ≡ true → ((index n : ℕ) → target codec (table_of []) nid index ≡ Some n → target codec (table_of entries) nid index ≡ Some n) ⊎ ((hops : List Hop) × (to : ℕ) × IsWay inner (target codec (table_of entries)) end nid hops to) = λ nid is.
+    let end = is_end kind codec format entries pair in
+    let alone = way_from_open_path kind codec format (table_of []) [] pair pin bounded (AreLefts-table []) some (open_alone kind codec format pair pin some right) in
+    let each : (nid : ℕ) → inner nid ≡ true → ((index n : ℕ) → target kind codec (table_of []) nid index ≡ Some n → target kind codec (table_of entries) nid index ≡ Some n) ⊎ ((hops : List Hop) × (to : ℕ) × IsWay inner (target kind codec (table_of entries)) end nid hops to) = λ nid is.
     elim (find_hop nid (all_hops entries)) [
       | inl found ↦
-          let on = goes_on codec format pair entries bounded are found.0 found.1 (ap inner found.2 ∙ is) in
-          inr (on.0, on.1, subst (λ (n : ℕ). IsWay inner (target codec (table_of entries)) end n on.0 on.1) found.2 on.2)
-      | inr none ↦ inl (λ index n leads. allowed_beside codec entries nid index n bounded (λ inn. list_all-from_AllPass (is_alike nid index) (all_hops entries) (λ k d within. alike_made nid index (get_or (all_hops entries) k d) (λ same. absurd (none (get_or (all_hops entries) k d) (Contains-get_or (all_hops entries) k d within) (sym same))))) leads)
+          let on = goes_on kind codec format pair entries bounded are found.0 found.1 (ap inner found.2 ∙ is) in
+          inr (on.0, on.1, subst (λ (n : ℕ). IsWay inner (target kind codec (table_of entries)) end n on.0 on.1) found.2 on.2)
+      | inr none ↦ inl (λ index n leads. allowed_beside kind codec entries nid index n bounded (λ inn. list_all-from_AllPass (is_alike nid index) (all_hops entries) (λ k d within. alike_made nid index (get_or (all_hops entries) k d) (λ same. absurd (none (get_or (all_hops entries) k d) (Contains-get_or (all_hops entries) k d within) (sym same))))) leads)
     ]
     in
-    let way = change_way_out inner (target codec (table_of [])) (target codec (table_of entries)) (is_end codec format [] pair) end (ends_beside codec format pair entries are.pairs) each some.hops pin some.converter (λ index n leads. allowed_beside codec entries pin index n bounded (λ inn. absurd (outer inn)) leads) alone in
+    let way = change_way_out inner (target kind codec (table_of [])) (target kind codec (table_of entries)) (is_end kind codec format [] pair) end (ends_beside kind codec format pair entries are.pairs) each some.hops pin some.converter (λ index n leads. allowed_beside kind codec entries pin index n bounded (λ inn. absurd (outer inn)) leads) alone in
     let route : Route = record { hops = way.0; converter = way.1 } in
-    (route, open_path_from_way codec format (table_of entries) entries pair pin bounded (AreLefts-table entries) route way.2)
+    (route, open_path_from_way kind codec format (table_of entries) entries pair pin bounded (AreLefts-table entries) route way.2)

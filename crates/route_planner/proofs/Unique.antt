@@ -5,12 +5,13 @@ use Rattle.std.proofs.lemmas.Option.{same_Some}
 use Rattle.std.proofs.lemmas.List.{length-map}
 use Rattle.codec_graph.specs.declared.raw.RawCodec.{RawCodec}
 use Rattle.stream_format.specs.declared.format.Format.{Format}
+use Rattle.route_planner.specs.declared.pin_kind.PinKind.{PinKind}
 use Rattle.route_planner.specs.declared.routes.Hop.{Hop}
 use Rattle.route_planner.specs.declared.routes.Route.{Route}
 use Rattle.route_planner.specs.declared.routes.Outcome.TheVariants as outcome
 use Rattle.route_planner.specs.declared.routes.PinPlan.{PinPlan}
 use Rattle.route_planner.specs.Paths.{connection, LeadsTo, IsNoLater, IsNoLarger}
-use Rattle.route_planner.specs.Plans.{IsOutcome}
+use Rattle.route_planner.specs.Plans.{IsOutcomeAs}
 
 same_indexes : (xs ys : List ℕ) → length xs ≡ length ys → IsNoLater xs ys → IsNoLater ys xs → xs ≡ ys
 same_indexes [] [] long one other = refl
@@ -78,6 +79,6 @@ same_routes codec pin one other leads_one leads_other small large =
     let same = same_hops codec one.hops other.hops pin one.converter other.converter (same_places one other small large) leads_one leads_other in
     same_parts one other same.0 same.1
 
-pub least_is_one : (codec : RawCodec) (format : Format) (earlier : List PinPlan) (pair pin : ℕ) (one other : Route) → IsOutcome codec format earlier pair pin (outcome.Route one) → IsOutcome codec format earlier pair pin (outcome.Route other) → one ≡ other
-least_is_one codec format earlier pair pin one other is twin =
+pub least_is_one : (kind : PinKind) (codec : RawCodec) (format : Format) (earlier : List PinPlan) (pair pin : ℕ) (one other : Route) → IsOutcomeAs kind codec format earlier pair pin (outcome.Route one) → IsOutcomeAs kind codec format earlier pair pin (outcome.Route other) → one ≡ other
+least_is_one kind codec format earlier pair pin one other is twin =
     same_routes codec pin one other is.0.0.path.leads twin.0.0.path.leads (is.1 other twin.0) (twin.1 one is.0)

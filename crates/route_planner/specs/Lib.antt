@@ -1,4 +1,5 @@
 pub mod Formats
+pub mod Kinds
 pub mod Order
 pub mod Paths
 pub mod Plans

@@ -1,5 +1,5 @@
--- The order of the candidate pins, and the channel pair of each. This project's own, over the configuration default's
--- association, sequence and default device (High Definition Audio 1.0a, 7.3.3.31).
+-- The order of the candidate pins of each kind, and the channel pair of each. This project's own, over the
+-- configuration default's association, sequence and default device (High Definition Audio 1.0a, 7.3.3.31).
 use Rattle.std.specs.Prelude.{◌≡◌, ◌↔◌, ℕ, Bool, true, ◌==◌, ◌&&◌, ◌||◌, ◌/◌, ◌%◌, nat_lt, not, List, Option, Some}
 use Rattle.std.specs.Prelude.{None, AllPairs, Contains, count_by, if◌then◌else◌}
 use Rattle.std.specs.List.{range_with_len}
@@ -7,6 +7,9 @@ use Rattle.codec_graph.specs.declared.raw.RawNode.{RawNode}
 use Rattle.codec_graph.specs.declared.raw.RawCodec.{RawCodec}
 use Rattle.codec_graph.specs.Widget.{node_identifiers, node_at}
 use Rattle.codec_graph.specs.Candidates.{association, sequence, device, is_candidate}
+use Rattle.route_planner.specs.declared.pin_kind.PinKind.{PinKind}
+use Rattle.route_planner.specs.declared.pin_kind.PinKind.TheVariants.{Analog, Digital}
+use Rattle.route_planner.specs.Kinds.{is_candidate_as}
 use Rattle.route_planner.specs.Paths.{passes}
 
 abbrev pub association_of : Option RawNode → ℕ
@@ -26,10 +29,17 @@ comes_before codec pin other =
     || (association_of p == association_of q
     && (nat_lt (sequence_of p) (sequence_of q) || (sequence_of p == sequence_of q && nat_lt pin other)))
 
--- the pins are the codec's candidates, each once and in order
-pub record IsOrder (codec : RawCodec) (pins : List ℕ) : Type 0 where
+-- the pins are the codec's candidates of the kind, each once and in order
+pub record IsOrderAs (kind : PinKind) (codec : RawCodec) (pins : List ℕ) : Type 0 where
   pub ascending : AllPairs (λ pin other. comes_before codec pin other ≡ true) pins
-  pub exactly : (nid : ℕ) → Contains pins nid ↔ (is_candidate codec nid ≡ true)
+  pub exactly : (nid : ℕ) → Contains pins nid ↔ (is_candidate_as kind codec nid ≡ true)
+
+-- so are the analog ones, and the digital ones
+abbrev pub IsOrder : RawCodec → List ℕ → Type 0
+IsOrder = IsOrderAs Analog
+
+abbrev pub IsDigitalOrder : RawCodec → List ℕ → Type 0
+IsDigitalOrder = IsOrderAs Digital
 
 -- the default device of a headphone: HP out (7.3.3.31)
 abbrev pub headphone_device : ℕ
@@ -52,7 +62,12 @@ is_earlier_companion codec pin other =
 abbrev pub rank_of : RawCodec → ℕ → ℕ
 rank_of codec pin = count_by (is_earlier_companion codec pin) (range_with_len 0 node_identifiers)
 
--- the channel pair of a pin: a headphone has the first, and every other pin has that of its rank, round the stream's
--- pairs of channels
+-- the channel pair of an analog pin: a headphone has the first, and every other pin has that of its rank, round the
+-- stream's pairs of channels
 abbrev pub pair_of : RawCodec → ℕ → ℕ → ℕ
 pair_of codec channels pin = if is_headphone codec pin then 0 else rank_of codec pin % (channels / 2)
+
+-- the channel pair of a pin of a kind: each digital pin has the first
+abbrev pub pair_as : PinKind → RawCodec → ℕ → ℕ → ℕ
+pair_as Analog codec channels pin = pair_of codec channels pin
+pair_as Digital codec channels pin = 0

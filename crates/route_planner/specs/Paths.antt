@@ -1,11 +1,14 @@
 -- Paths from a pin to an output converter along connection lists (High Definition Audio 1.0a, 7.1.3), and which of them
--- can carry a stream. The four conditions of an admissible path are this project's own.
+-- can carry a stream, for analog pins and for digital ones. The conditions of an admissible path are this project's
+-- own.
 use Rattle.std.specs.Prelude.{◌≡◌, ◌≢◌, ◌<◌, ◌⊎◌, ℕ, Bool, true, false, ◌&&◌, not, nat_le, List, [], ◌∷◌, ◌++◌, map}
 use Rattle.std.specs.Prelude.{drop, length, Option, Some, None, MatchOption, slice_get, All, Contains, if◌then◌else◌}
 use Rattle.codec_graph.specs.declared.raw.RawNode.{RawNode}
 use Rattle.codec_graph.specs.declared.raw.RawCodec.{RawCodec}
 use Rattle.codec_graph.specs.Widget.{node_at, is_mixer, is_selector, is_inner, is_output_converter, is_stereo}
 use Rattle.codec_graph.specs.Widget.{is_digital, has_input_amplifier, input_amplifier_word, can_mute}
+use Rattle.route_planner.specs.declared.pin_kind.PinKind.{PinKind}
+use Rattle.route_planner.specs.declared.pin_kind.PinKind.TheVariants.{Analog, Digital}
 use Rattle.route_planner.specs.declared.routes.Hop.{Hop}
 use Rattle.route_planner.specs.declared.routes.Route.{Route}
 use Rattle.stream_format.specs.declared.format.Format.{Format}
@@ -53,12 +56,39 @@ can_be_left codec index node =
     (input_amplifier_word codec node) else true)
     && (if is_selector node && has_input_amplifier node then nat_le index 15 else true)
 
--- an admissible path of a pin for a stream format
-pub record IsAdmissible (codec : RawCodec) (format : Format) (pin : ℕ) (route : Route) : Type 0 where
+-- a digital stream has two channels in each node
+abbrev pub is_digital_stereo : RawNode → Bool
+is_digital_stereo node = is_stereo node && is_digital node
+
+-- it passes no mixer, and no amplifier of a selector's input
+abbrev pub passes_digital : RawNode → Bool
+passes_digital node = not (is_mixer node) && not (is_selector node && has_input_amplifier node)
+
+-- a node that the routes of a kind of pins may have, and whether they may leave it by the connection at an index
+abbrev pub can_carry : PinKind → RawNode → Bool
+can_carry Analog node = is_analog_stereo node
+can_carry Digital node = is_digital_stereo node
+
+abbrev pub can_be_left_as : PinKind → RawCodec → ℕ → RawNode → Bool
+can_be_left_as Analog codec index node = can_be_left codec index node
+can_be_left_as Digital codec index node = passes_digital node
+
+-- an admissible path of a pin of a kind for a stream format
+pub record IsAdmissibleAs (kind : PinKind) (codec : RawCodec) (format : Format) (pin : ℕ) (route : Route) : Type 0 where
   pub path : IsPath codec pin route
-  pub analog_stereo : All (λ nid. passes is_analog_stereo (node_at codec nid) ≡ true) (nodes_of route)
-  pub left_well : All (λ (hop : Hop). passes (can_be_left codec hop.index) (node_at codec hop.nid) ≡ true) route.hops
+  pub carried : All (λ nid. passes (can_carry kind) (node_at codec nid) ≡ true) (nodes_of route)
+  pub left_well : All (λ (hop : Hop). passes (can_be_left_as kind codec hop.index) (node_at codec hop.nid) ≡ true)
+      route.hops
   pub supported : passes (supports codec format.rate format.bits) (node_at codec route.converter) ≡ true
+
+-- of an analog pin: all its nodes are analog and stereo, and set-up can open each for its connection alone
+abbrev pub IsAdmissible : RawCodec → Format → ℕ → Route → Type 0
+IsAdmissible = IsAdmissibleAs Analog
+
+-- of a digital pin: all its nodes are digital and stereo, and between pin and converter are selectors without input
+-- amplifier
+abbrev pub IsDigitallyAdmissible : RawCodec → Format → ℕ → Route → Type 0
+IsDigitallyAdmissible = IsAdmissibleAs Digital
 
 -- two routes leave each mixer or selector that they share by the same index
 abbrev pub LeaveAlike : RawCodec → Route → Route → Type 0

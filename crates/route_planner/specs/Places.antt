@@ -2,7 +2,8 @@
 use Rattle.std.specs.Prelude.{◌≡◌, ◌≢◌, ◌↔◌, ℕ, true, List, map, All, AllPairs, Contains}
 use Rattle.codec_graph.specs.declared.raw.RawCodec.{RawCodec}
 use Rattle.codec_graph.specs.Widget.{node_at}
-use Rattle.codec_graph.specs.Candidates.{is_candidate}
+use Rattle.route_planner.specs.declared.pin_kind.PinKind.{PinKind}
+use Rattle.route_planner.specs.Kinds.{is_candidate_as}
 use Rattle.route_planner.specs.declared.pin_order.Place.{Place}
 use Rattle.route_planner.specs.Order.{association_of, sequence_of}
 
@@ -12,8 +13,8 @@ pub record IsPlace (codec : RawCodec) (place : Place) : Type 0 where
   pub of_sequence : place.sequence ≡ sequence_of (node_at codec place.nid)
 
 -- the place of a candidate
-pub record IsPlaceOf (codec : RawCodec) (nid : ℕ) (place : Place) : Type 0 where
-  pub is : is_candidate codec nid ≡ true
+pub record IsPlaceOf (kind : PinKind) (codec : RawCodec) (nid : ℕ) (place : Place) : Type 0 where
+  pub is : is_candidate_as kind codec nid ≡ true
   pub of_nid : place.nid ≡ nid
   pub right : IsPlace codec place
 
@@ -21,7 +22,7 @@ abbrev pub nids : List Place → List ℕ
 nids places = map (λ (place : Place). place.nid) places
 
 -- the places are those of the candidates, each once
-pub record ArePlaces (codec : RawCodec) (places : List Place) : Type 0 where
+pub record ArePlaces (kind : PinKind) (codec : RawCodec) (places : List Place) : Type 0 where
   pub each : All (IsPlace codec) places
   pub once : AllPairs (λ nid other. nid ≢ other) (nids places)
-  pub exactly : (nid : ℕ) → Contains (nids places) nid ↔ (is_candidate codec nid ≡ true)
+  pub exactly : (nid : ℕ) → Contains (nids places) nid ↔ (is_candidate_as kind codec nid ≡ true)

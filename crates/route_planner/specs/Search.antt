@@ -9,13 +9,14 @@ use Rattle.codec_graph.specs.Faults.{most_listed}
 use Rattle.codec_graph.specs.Widget.{node_identifiers, node_at, is_inner, is_output_converter}
 use Rattle.route_planner.specs.declared.left.Left.{Left}
 use Rattle.route_planner.specs.declared.left.Left.TheVariants.{Free, By, Never}
+use Rattle.route_planner.specs.declared.pin_kind.PinKind.{PinKind}
 use Rattle.route_planner.specs.declared.routes.Hop.{Hop}
 use Rattle.route_planner.specs.declared.routes.Outcome.{Outcome}
 use Rattle.route_planner.specs.declared.routes.Outcome.TheVariants as outcome
 use Rattle.route_planner.specs.declared.routes.PinPlan.{PinPlan}
 use Rattle.stream_format.specs.declared.format.Format.{Format}
 use Rattle.route_planner.specs.Formats.{supports}
-use Rattle.route_planner.specs.Paths.{passes, list_of, connection, is_analog_stereo, can_be_left}
+use Rattle.route_planner.specs.Paths.{passes, list_of, connection, can_carry, can_be_left_as}
 
 -- whether a node may be left by a connection
 abbrev pub allows : Left → ℕ → Bool
@@ -49,28 +50,29 @@ outcome_carries pair nid other_pair outcome.NoPath = true
 abbrev pub carries_alike : ℕ → ℕ → PinPlan → Bool
 carries_alike pair nid entry = outcome_carries pair nid entry.pair entry.outcome
 
--- whether a route may leave the node by the connection at an index
-abbrev pub can_leave : RawCodec → Left → ℕ → RawNode → Bool
-can_leave codec left index node =
-    is_analog_stereo node && can_be_left codec index node && (not (is_inner node) || allows left index)
+-- whether a route of the kind may leave the node by the connection at an index
+abbrev pub can_leave : PinKind → RawCodec → Left → ℕ → RawNode → Bool
+can_leave kind codec left index node =
+    can_carry kind node && can_be_left_as kind codec index node && (not (is_inner node) || allows left index)
 
 -- the node to which an allowed connection leads
-unfoldable pub target : RawCodec → List Left → ℕ → ℕ → Option ℕ
-target codec lefts nid index =
-    if passes (can_leave codec (left_at lefts nid) index) (node_at codec nid) then connection codec nid index else None
+unfoldable pub target : PinKind → RawCodec → List Left → ℕ → ℕ → Option ℕ
+target kind codec lefts nid index =
+    if passes (can_leave kind codec (left_at lefts nid) index) (node_at codec nid) then connection codec nid index else
+    None
 
 unfoldable pub is_inner_at : RawCodec → ℕ → Bool
 is_inner_at codec nid = passes is_inner (node_at codec nid)
 
--- a converter that can take the format
-abbrev pub can_end : RawCodec → Format → RawNode → Bool
-can_end codec format node =
-    is_output_converter node && is_analog_stereo node && supports codec format.rate format.bits node
+-- a converter of the kind that can take the format
+abbrev pub can_end : PinKind → RawCodec → Format → RawNode → Bool
+can_end kind codec format node =
+    is_output_converter node && can_carry kind node && supports codec format.rate format.bits node
 
 -- a converter at which a route with this pair of channels may end, beside those of the earlier entries
-unfoldable pub is_end : RawCodec → Format → List PinPlan → ℕ → ℕ → Bool
-is_end codec format earlier pair nid =
-    passes (can_end codec format) (node_at codec nid) && list_all (carries_alike pair nid) earlier
+unfoldable pub is_end : PinKind → RawCodec → Format → List PinPlan → ℕ → ℕ → Bool
+is_end kind codec format earlier pair nid =
+    passes (can_end kind codec format) (node_at codec nid) && list_all (carries_alike pair nid) earlier
 
 -- the widgets have node identifiers, and no more connections than a widget may list
 pub record IsBounded (codec : RawCodec) : Type 0 where

@@ -5,6 +5,7 @@ ghost use Rattle.route_planner.specs.Paths as paths;
 ghost use Rattle.route_planner.specs.Search as spec;
 
 use crate::left::Left;
+use crate::pin_kind::PinKind;
 use crate::routes::{Outcome, PinPlan};
 use codec_graph::{RawCodec, RawNode, can_mute};
 use stream_format::{Bits, Format, Rate};
@@ -17,6 +18,30 @@ fn is_analog_stereo(node: &RawNode) -> bool
     node.is_stereo() && !node.is_digital()
 }
 
+/// Whether the node has two channels and carries a digital stream.
+fn is_digital_stereo(node: &RawNode) -> bool
+    ensures { result ≡ paths.is_digital_stereo node.now }
+{
+    node.is_stereo() && node.is_digital()
+}
+
+/// Whether routes of the kind may have the node.
+fn can_carry(kind: PinKind, node: &RawNode) -> bool
+    ensures { result ≡ paths.can_carry kind node.now }
+{
+    match kind {
+        PinKind::Analog => is_analog_stereo(node),
+        PinKind::Digital => is_digital_stereo(node),
+    }
+}
+
+/// Whether the node is no mixer, and no selector with an input amplifier.
+fn passes_digital(node: &RawNode) -> bool
+    ensures { result ≡ paths.passes_digital node.now }
+{
+    !node.is_mixer() && !(node.is_selector() && node.has_input_amplifier())
+}
+
 /// Whether set-up can open the node for the connection at this index alone.
 fn can_be_left(codec: &RawCodec, index: usize, node: &RawNode) -> bool
     ensures { result ≡ paths.can_be_left codec.now index node.now }
@@ -27,12 +52,28 @@ fn can_be_left(codec: &RawCodec, index: usize, node: &RawNode) -> bool
     (!mixes || mutes) && (!selects_amplifier || index <= 15)
 }
 
-/// Whether a route may leave the node by the connection at this index.
-pub(crate) fn can_leave(codec: &RawCodec, left: Left, index: usize, node: &RawNode) -> bool
-    ensures { result ≡ spec.can_leave codec.now left index node.now }
+/// Whether routes of the kind may leave the node by the connection at this index, whatever other routes do.
+fn can_be_left_as(kind: PinKind, codec: &RawCodec, index: usize, node: &RawNode) -> bool
+    ensures { result ≡ paths.can_be_left_as kind codec.now index node.now }
 {
-    is_analog_stereo(node)
-        && can_be_left(codec, index, node)
+    match kind {
+        PinKind::Analog => can_be_left(codec, index, node),
+        PinKind::Digital => passes_digital(node),
+    }
+}
+
+/// Whether a route of the kind may leave the node by the connection at this index.
+pub(crate) fn can_leave(
+    kind: PinKind,
+    codec: &RawCodec,
+    left: Left,
+    index: usize,
+    node: &RawNode,
+) -> bool
+    ensures { result ≡ spec.can_leave kind codec.now left index node.now }
+{
+    can_carry(kind, node)
+        && can_be_left_as(kind, codec, index, node)
         && (!node.is_inner() || left.allows(index))
 }
 
@@ -73,11 +114,11 @@ fn supports(codec: &RawCodec, format: Format, node: &RawNode) -> bool
         && has_bit(pcm, size_bit(format.bits))
 }
 
-/// Whether the node is a converter that can end a route of the format.
-fn can_end(codec: &RawCodec, format: Format, node: &RawNode) -> bool
-    ensures { result ≡ spec.can_end codec.now format node.now }
+/// Whether the node is a converter that can end a route of the kind and the format.
+fn can_end(kind: PinKind, codec: &RawCodec, format: Format, node: &RawNode) -> bool
+    ensures { result ≡ spec.can_end kind codec.now format node.now }
 {
-    node.is_output_converter() && is_analog_stereo(node) && supports(codec, format, node)
+    node.is_output_converter() && can_carry(kind, node) && supports(codec, format, node)
 }
 
 /// Whether the entry's route, if it has one, ends elsewhere or carries the same pair of channels.
@@ -90,18 +131,20 @@ fn carries_alike(pair: u8, nid: u8, entry: &PinPlan) -> bool
     }
 }
 
-/// Whether a route with this pair of channels may end at the node, beside the routes of the earlier entries.
+/// Whether a route of the kind with this pair of channels may end at the node, beside the routes of the earlier
+/// entries.
 pub(crate) fn is_end(
+    kind: PinKind,
     codec: &RawCodec,
     format: Format,
     earlier: &[PinPlan],
     pair: u8,
     nid: u8,
 ) -> bool
-    ensures { result ≡ spec.is_end codec.now format earlier.now pair nid }
+    ensures { result ≡ spec.is_end kind codec.now format earlier.now pair nid }
 {
     match codec.node(nid) {
-        Some(node) => can_end(codec, format, node)
+        Some(node) => can_end(kind, codec, format, node)
             && earlier.iter().all(|entry| carries_alike(pair, nid, entry)),
         None => false,
     }

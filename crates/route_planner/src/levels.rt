@@ -7,6 +7,7 @@ ghost use Rattle.route_planner.specs.Ways as ways;
 
 use crate::allowed::{can_leave, is_end, is_inner};
 use crate::left::Left;
+use crate::pin_kind::PinKind;
 use crate::routes::PinPlan;
 use codec_graph::{NODE_IDENTIFIERS, RawCodec};
 use stream_format::Format;
@@ -28,19 +29,20 @@ fn level_of(levels: &[u16; 256], nid: u8) -> u16
     levels[usize::from(nid)]
 }
 
-/// Level 0 for each converter at which a route may end, and no level for the other nodes.
+/// Level 0 for each converter at which a route of the kind may end, and no level for the other nodes.
 pub(crate) fn end_levels(
+    kind: PinKind,
     codec: &RawCodec,
     format: Format,
     earlier: &[PinPlan],
     pair: u8,
 ) -> [u16; 256]
     requires { spec.IsBounded codec.now }
-    ensures { stage.AreEndLevels (spec.is_end codec.now format earlier.now pair) result }
+    ensures { stage.AreEndLevels (spec.is_end kind codec.now format earlier.now pair) result }
 {
     let mut levels = [FAR; 256];
     for nid in 0..NODE_IDENTIFIERS as u8 {
-        if is_end(codec, format, earlier, pair, nid) {
+        if is_end(kind, codec, format, earlier, pair, nid) {
             levels[usize::from(nid)] = 0;
         }
     }
@@ -49,6 +51,7 @@ pub(crate) fn end_levels(
 
 /// The first connection of the node that may be taken and leads to a node of the level.
 pub(crate) fn first_step(
+    kind: PinKind,
     codec: &RawCodec,
     lefts: &[Left; 256],
     levels: &[u16; 256],
@@ -57,13 +60,13 @@ pub(crate) fn first_step(
 ) -> Option<Step>
     requires { spec.IsBounded codec.now }
     ensures { MatchOption result
-        (stage.LeadsNowhere (spec.target codec.now lefts.now nid) levels.now level)
-        (stage.IsFirstStep (spec.target codec.now lefts.now nid) levels.now level) }
+        (stage.LeadsNowhere (spec.target kind codec.now lefts.now nid) levels.now level)
+        (stage.IsFirstStep (spec.target kind codec.now lefts.now nid) levels.now level) }
 {
     let node = codec.node(nid)?;
     let left = lefts[usize::from(nid)];
     for (index, to) in node.list.as_slice().iter().enumerate() {
-        if level_of(levels, *to) == level && can_leave(codec, left, index, node) {
+        if level_of(levels, *to) == level && can_leave(kind, codec, left, index, node) {
             return Some(Step {
                 index: index as u8,
                 to: *to,
@@ -74,30 +77,43 @@ pub(crate) fn first_step(
 }
 
 /// Whether the node is a mixer or selector that has no level and leads to a node of the level.
-fn is_next(codec: &RawCodec, lefts: &[Left; 256], levels: &[u16; 256], nid: u8, level: u16) -> bool
+fn is_next(
+    kind: PinKind,
+    codec: &RawCodec,
+    lefts: &[Left; 256],
+    levels: &[u16; 256],
+    nid: u8,
+    level: u16,
+) -> bool
     requires { spec.IsBounded codec.now }
     ensures yes { OnTrue result
-        (stage.IsNext (spec.is_inner_at codec.now) (spec.target codec.now lefts.now) levels.now level nid) }
+        (stage.IsNext (spec.is_inner_at codec.now) (spec.target kind codec.now lefts.now) levels.now level nid) }
     ensures no { OnFalse result
-        (stage.IsNext (spec.is_inner_at codec.now) (spec.target codec.now lefts.now) levels.now level nid → ⊥) }
+        (stage.IsNext (spec.is_inner_at codec.now) (spec.target kind codec.now lefts.now) levels.now level nid → ⊥) }
 {
     level_of(levels, nid) == FAR
         && is_inner(codec, nid)
-        && first_step(codec, lefts, levels, nid, level).is_some()
+        && first_step(kind, codec, lefts, levels, nid, level).is_some()
 }
 
 /// Gives the next level to each mixer or selector that has none and leads to a node of the level. Whether there is one.
-fn mark_level(codec: &RawCodec, lefts: &[Left; 256], levels: &mut [u16; 256], level: u16) -> bool
+fn mark_level(
+    kind: PinKind,
+    codec: &RawCodec,
+    lefts: &[Left; 256],
+    levels: &mut [u16; 256],
+    level: u16,
+) -> bool
     requires bounded { spec.IsBounded codec.now }
     requires near { level < 65534 }
-    ensures marked { stage.IsNextLevel (spec.is_inner_at codec.now) (spec.target codec.now lefts.now) levels.old
+    ensures marked { stage.IsNextLevel (spec.is_inner_at codec.now) (spec.target kind codec.now lefts.now) levels.old
         levels.new level }
     ensures fewer { OnTrue result (spec.count_far levels.new < spec.count_far levels.old) }
     ensures same { OnFalse result (levels.new ≡ levels.old) }
 {
     let mut marked = false;
     for nid in 0..NODE_IDENTIFIERS as u8 {
-        if is_next(codec, lefts, levels, nid, level) {
+        if is_next(kind, codec, lefts, levels, nid, level) {
             levels[usize::from(nid)] = level + 1;
             marked = true;
         }
@@ -108,6 +124,7 @@ fn mark_level(codec: &RawCodec, lefts: &[Left; 256], levels: &mut [u16; 256], le
 /// Gives the nodes their levels until a connection of the node leads to one with a level, which is then the least that
 /// any leads to. None where no way leads from the node to an end.
 pub(crate) fn nearest_level(
+    kind: PinKind,
     codec: &RawCodec,
     lefts: &[Left; 256],
     levels: &mut [u16; 256],
@@ -116,15 +133,15 @@ pub(crate) fn nearest_level(
     requires { spec.IsBounded codec.now }
     ensures { (end : ℕ → Bool) → stage.AreEndLevels end levels.old
         → MatchOption result
-        (ways.LeadsToNoEnd (spec.is_inner_at codec.now) (spec.target codec.now lefts.now) end from)
-        (ways.IsNearest (spec.is_inner_at codec.now) (spec.target codec.now lefts.now) end levels.new from) }
+        (ways.LeadsToNoEnd (spec.is_inner_at codec.now) (spec.target kind codec.now lefts.now) end from)
+        (ways.IsNearest (spec.is_inner_at codec.now) (spec.target kind codec.now lefts.now) end levels.new from) }
 {
     let mut level = 0;
     loop {
-        if first_step(codec, lefts, levels, from, level).is_some() {
+        if first_step(kind, codec, lefts, levels, from, level).is_some() {
             return Some(level);
         }
-        if !mark_level(codec, lefts, levels, level) {
+        if !mark_level(kind, codec, lefts, levels, level) {
             return None;
         }
         level += 1;

@@ -1,17 +1,19 @@
-//! Routes from the candidate pins of a codec to its output converters.
+//! Routes from the candidate pins of a codec to its output converters, for analog pins and for digital ones.
 #![tactic(auto)]
 
 mod allowed;
 mod laws;
 mod left;
 mod levels;
+mod pin_kind;
 mod pin_order;
 mod planner;
 mod routes;
 mod walk;
 
-pub use laws::one_order;
-pub use pin_order::{is_headphone, order};
-pub use planner::plan;
+pub use laws::{one_order, one_order_of_each_kind};
+pub use pin_kind::PinKind;
+pub use pin_order::{digital_order, is_headphone, order, order_as};
+pub use planner::{digital_plan, plan};
 pub use routes::{Hop, Outcome, PinPlan, Plan, Route};
 pub use stream_format::{Bits, Format, Rate};

@@ -1,15 +1,25 @@
-//! The order of the candidate pins, and the pair of channels of each.
+//! The order of the candidate pins of each kind, and the pair of channels of each.
 ghost use Rattle.std.specs.Prelude.{◌≡◌, ◌≤◌, ◌<◌, false, IfOk, MatchOption};
-ghost use Rattle.codec_graph.specs.Candidates as candidates;
+ghost use Rattle.route_planner.specs.Kinds as kinds;
 ghost use Rattle.route_planner.specs.Order as spec;
 ghost use Rattle.route_planner.specs.Places as place_words;
 ghost use Rattle.route_planner.specs.Search as search_words;
 
-use codec_graph::{Graph, NODE_IDENTIFIERS, RawCodec, RawNode, bits_of};
+use crate::pin_kind::PinKind;
+use codec_graph::{Graph, NODE_IDENTIFIERS, RawCodec, RawNode, bits_of, has_bit};
 use std::alloc::{AllocError, Global};
 
 /// The default device of a headphone: HP out (HDA 1.0a, 7.3.3.31).
 const HEADPHONE_DEVICE: u32 = 2;
+
+/// The default device of an S/PDIF output: SPDIF out (HDA 1.0a, 7.3.3.31).
+const DIGITAL_DEVICE: u32 = 4;
+
+/// The port connectivity of a pin to which nothing is connected (HDA 1.0a, 7.3.3.31).
+const UNCONNECTED: u32 = 1;
+
+/// The bit of the pin capabilities that says that it can drive an output (HDA 1.0a, 7.3.4.9).
+const OUTPUT_CAPABLE: u32 = 4;
 
 /// The place of a pin in the order.
 #[derive(Clone, Copy, Debug, PartialEq, Eq, PartialOrd, Ord)]
@@ -26,7 +36,27 @@ pub(crate) struct Place {
 pub fn order(alloc: Global, graph: &Graph) -> Result<Vec<u8>, AllocError>
     ensures { IfOk result (λ pins. spec.IsOrder graph.now pins.items) }
 {
-    let mut places = places_of(alloc, graph.raw())?;
+    order_as(alloc, PinKind::Analog, graph)
+}
+
+/// The digital candidate pins, S/PDIF outputs of two channels, in the same order.
+///
+/// # Errors
+/// Want of memory.
+pub fn digital_order(alloc: Global, graph: &Graph) -> Result<Vec<u8>, AllocError>
+    ensures { IfOk result (λ pins. spec.IsDigitalOrder graph.now pins.items) }
+{
+    order_as(alloc, PinKind::Digital, graph)
+}
+
+/// The candidate pins of a kind in that order.
+///
+/// # Errors
+/// Want of memory.
+pub fn order_as(alloc: Global, kind: PinKind, graph: &Graph) -> Result<Vec<u8>, AllocError>
+    ensures { IfOk result (λ pins. spec.IsOrderAs kind graph.now pins.items) }
+{
+    let mut places = places_of(alloc, kind, graph.raw())?;
     places.sort()?;
     nids_of(alloc, places.as_slice())
 }
@@ -38,26 +68,54 @@ fn nids_of(alloc: Global, places: &[Place]) -> Result<Vec<u8>, AllocError>
     places.iter().map(|place| place.nid).collect(alloc)
 }
 
-/// The places of the candidate pins.
-fn places_of(alloc: Global, codec: &RawCodec) -> Result<Vec<Place>, AllocError>
+/// The places of the candidate pins of a kind.
+fn places_of(alloc: Global, kind: PinKind, codec: &RawCodec) -> Result<Vec<Place>, AllocError>
     requires { search_words.IsBounded codec.now }
-    ensures { IfOk result (λ list. place_words.ArePlaces codec.now list.items) }
+    ensures { IfOk result (λ list. place_words.ArePlaces kind codec.now list.items) }
 {
     let mut places = Vec::new(alloc);
     for nid in 0..NODE_IDENTIFIERS as u8 {
-        if let Some(place) = place_of(codec, nid) {
+        if let Some(place) = place_of(kind, codec, nid) {
             places.push(place)?;
         }
     }
     Ok(places)
 }
 
-/// The place of a node that is a candidate.
-fn place_of(codec: &RawCodec, nid: u8) -> Option<Place>
-    ensures { MatchOption result (candidates.is_candidate codec.now nid ≡ false) (place_words.IsPlaceOf codec.now nid) }
+/// Whether the widget is a candidate pin of the kind.
+fn is_candidate(kind: PinKind, node: &RawNode) -> bool
+    ensures { result ≡ kinds.is_candidate_node_as kind node.now }
+{
+    match kind {
+        PinKind::Analog => node.is_candidate(),
+        PinKind::Digital => is_digital_candidate(node),
+    }
+}
+
+/// Whether the widget is an S/PDIF output of two channels that is connected to something and has an association.
+fn is_digital_candidate(node: &RawNode) -> bool
+    ensures { result ≡ kinds.is_digital_candidate_node node.now }
+{
+    let connectivity = bits_of(node.default, 30, 2);
+    let device = bits_of(node.default, 20, 4);
+    node.is_pin()
+        && node.is_stereo()
+        && node.is_digital()
+        && has_bit(node.pin_caps, OUTPUT_CAPABLE)
+        && connectivity != UNCONNECTED
+        && device == DIGITAL_DEVICE
+        && node.association() != 0
+}
+
+/// The place of a node that is a candidate of the kind.
+#[tactic(auto, using(crate::proofs::KindLemmas::candidate_some, crate::proofs::KindLemmas::candidate_none))]
+fn place_of(kind: PinKind, codec: &RawCodec, nid: u8) -> Option<Place>
+    ensures { MatchOption result
+        (kinds.is_candidate_as kind codec.now nid ≡ false)
+        (place_words.IsPlaceOf kind codec.now nid) }
 {
     let node = codec.node(nid)?;
-    if !node.is_candidate() {
+    if !is_candidate(kind, node) {
         return None;
     }
     Some(Place {
@@ -98,8 +156,19 @@ fn rank_of(codec: &RawCodec, pin: u8) -> usize
         .count()
 }
 
-/// The pair of channels of a pin: 0 for a headphone, and else its rank, round the pairs of the stream.
-pub(crate) fn pair_of(codec: &RawCodec, channels: u8, pin: u8) -> u8
+/// The pair of channels of a pin of a kind: 0 for a digital one.
+pub(crate) fn pair_as(kind: PinKind, codec: &RawCodec, channels: u8, pin: u8) -> u8
+    requires { 2 ≤ channels }
+    ensures { result ≡ spec.pair_as kind codec.now channels pin }
+{
+    match kind {
+        PinKind::Analog => pair_of(codec, channels, pin),
+        PinKind::Digital => 0,
+    }
+}
+
+/// The pair of channels of an analog pin: 0 for a headphone, and else its rank, round the pairs of the stream.
+fn pair_of(codec: &RawCodec, channels: u8, pin: u8) -> u8
     requires { 2 ≤ channels }
     ensures { result ≡ spec.pair_of codec.now channels pin }
 {

@@ -1,4 +1,4 @@
-//! The plan of a graph.
+//! The plan of a graph for each kind of pins.
 ghost use Rattle.std.specs.Prelude.{◌≡◌, ◌≤◌, IfOk, MatchOption, ◌++◌, [], ◌∷◌};
 ghost use Rattle.route_planner.specs.Plans as plans;
 ghost use Rattle.route_planner.specs.Found as found;
@@ -7,7 +7,8 @@ ghost use Rattle.route_planner.specs.Laws as laws;
 
 use crate::left::lefts_of;
 use crate::levels::{end_levels, nearest_level};
-use crate::pin_order::{order, pair_of};
+use crate::pin_kind::PinKind;
+use crate::pin_order::{order_as, pair_as};
 use crate::routes::{Outcome, PinPlan, Plan, Route};
 use crate::walk::walk;
 use codec_graph::{Graph, RawCodec};
@@ -26,11 +27,35 @@ pub fn plan(alloc: Global, graph: &Graph, format: Format) -> Result<Plan, AllocE
     ensures only { IfOk result (laws.IsOnlyPlan graph.now format) }
     ensures unblocked { format.channels ≡ 2 → IfOk result laws.HasNoBlocked }
 {
+    plan_as(alloc, PinKind::Analog, graph, format)
+}
+
+/// The plan of a graph's digital pins for a stream format, as [`plan`] has one of the analog ones: each pin has the
+/// first pair of channels, so that none is blocked. This project's own.
+///
+/// # Errors
+/// Want of memory.
+pub fn digital_plan(alloc: Global, graph: &Graph, format: Format) -> Result<Plan, AllocError>
+    ensures plan { IfOk result (plans.IsDigitalPlan graph.now format) }
+    ensures admissible { IfOk result (plans.HasDigitalRoutes graph.now format) }
+    ensures only { IfOk result (laws.IsOnlyDigitalPlan graph.now format) }
+    ensures unblocked { IfOk result laws.HasNoBlocked }
+{
+    plan_as(alloc, PinKind::Digital, graph, format)
+}
+
+/// The plan of a graph for a kind of pins.
+fn plan_as(alloc: Global, kind: PinKind, graph: &Graph, format: Format) -> Result<Plan, AllocError>
+    ensures plan { IfOk result (plans.IsPlanAs kind graph.now format) }
+    ensures admissible { IfOk result (plans.HasAdmissibleRoutesAs kind graph.now format) }
+    ensures only { IfOk result (laws.IsOnlyPlanAs kind graph.now format) }
+    ensures unblocked { laws.HaveOnePair kind graph.now format.channels → IfOk result laws.HasNoBlocked }
+{
     let codec = graph.raw();
     let mut pins = Items::new(alloc);
-    let ordered = order(alloc, graph)?;
+    let ordered = order_as(alloc, kind, graph)?;
     for pin in &ordered {
-        pins.push(pin_plan(alloc, codec, format, pins.as_slice(), *pin)?)?;
+        pins.push(pin_plan(alloc, kind, codec, format, pins.as_slice(), *pin)?)?;
     }
     Ok(Plan { pins })
 }
@@ -38,22 +63,24 @@ pub fn plan(alloc: Global, graph: &Graph, format: Format) -> Result<Plan, AllocE
 /// The plan of a pin after some earlier entries.
 fn pin_plan(
     alloc: Global,
+    kind: PinKind,
     codec: &RawCodec,
     format: Format,
     earlier: &[PinPlan],
     pin: u8,
 ) -> Result<PinPlan, AllocError>
     requires { spec.IsBounded codec.now }
-    ensures { IfOk result (found.IsEntry codec.now format earlier.now pin) }
+    ensures { IfOk result (found.IsEntry kind codec.now format earlier.now pin) }
 {
-    let pair = pair_of(codec, format.channels, pin);
-    let outcome = outcome_of(alloc, codec, format, earlier, pair, pin)?;
+    let pair = pair_as(kind, codec, format.channels, pin);
+    let outcome = outcome_of(alloc, kind, codec, format, earlier, pair, pin)?;
     Ok(PinPlan { pin, pair, outcome })
 }
 
 /// The outcome of a pin after some earlier entries.
 fn outcome_of(
     alloc: Global,
+    kind: PinKind,
     codec: &RawCodec,
     format: Format,
     earlier: &[PinPlan],
@@ -61,12 +88,12 @@ fn outcome_of(
     pin: u8,
 ) -> Result<Outcome, AllocError>
     requires { spec.IsBounded codec.now }
-    ensures { IfOk result (plans.IsOutcome codec.now format earlier.now pair pin) }
+    ensures { IfOk result (plans.IsOutcomeAs kind codec.now format earlier.now pair pin) }
 {
-    if let Some(route) = least_open(alloc, codec, format, earlier, pair, pin)? {
+    if let Some(route) = least_open(alloc, kind, codec, format, earlier, pair, pin)? {
         return Ok(Outcome::Route(route));
     }
-    match least_open(alloc, codec, format, &[], pair, pin)? {
+    match least_open(alloc, kind, codec, format, &[], pair, pin)? {
         Some(_) => Ok(Outcome::Blocked),
         None => Ok(Outcome::NoPath),
     }
@@ -75,6 +102,7 @@ fn outcome_of(
 /// The least admissible path of a pin that the earlier entries leave open.
 fn least_open(
     alloc: Global,
+    kind: PinKind,
     codec: &RawCodec,
     format: Format,
     earlier: &[PinPlan],
@@ -83,13 +111,13 @@ fn least_open(
 ) -> Result<Option<Route>, AllocError>
     requires { spec.IsBounded codec.now }
     ensures { IfOk result (λ least. MatchOption least
-        (found.HasNoOpenPath codec.now format earlier.now pair pin)
-        (found.IsLeastOpen codec.now format earlier.now pair pin)) }
+        (found.HasNoOpenPath kind codec.now format earlier.now pair pin)
+        (found.IsLeastOpen kind codec.now format earlier.now pair pin)) }
 {
     let lefts = lefts_of(earlier);
-    let mut levels = end_levels(codec, format, earlier, pair);
-    match nearest_level(codec, &lefts, &mut levels, pin) {
-        Some(level) => Ok(Some(walk(alloc, codec, &lefts, &levels, pin, level)?)),
+    let mut levels = end_levels(kind, codec, format, earlier, pair);
+    match nearest_level(kind, codec, &lefts, &mut levels, pin) {
+        Some(level) => Ok(Some(walk(alloc, kind, codec, &lefts, &levels, pin, level)?)),
         None => Ok(None),
     }
 }

@@ -32,8 +32,8 @@ pub enum Outcome {
 pub struct PinPlan {
     /// The node identifier of the pin.
     pub pin: u8,
-    /// The pair of channels that the pin plays: 0 for a headphone, and else the pin's rank, from 0, among the
-    /// candidates of its association that are no headphones, round the pairs of the stream.
+    /// The pair of channels that the pin plays: 0 for a headphone and for a digital pin, and else the pin's rank, from
+    /// 0, among the candidates of its association that are no headphones, round the pairs of the stream.
     pub pair: u8,
     pub outcome: Outcome,
 }

@@ -1,4 +1,5 @@
 //! The set-up of analog outputs.
+ghost use Rattle.route_planner.specs.declared.pin_kind.PinKind.TheVariants as kind;
 ghost use Rattle.setup_verbs.proofs.Callers.{lead_to_set_up, all_commands_of, one_plan_of};
 ghost use Rattle.route_setup.specs.Means.{analog};
 
@@ -21,7 +22,7 @@ impl Setter for Analog {
     ghost opens = { λ _ graph plan format tag settings well is some few of. lead_to_set_up graph plan format tag well is
         some few settings of };
 
-    ghost encodable = { λ _. all_commands_of };
+    ghost encodable = { λ _. all_commands_of kind.Analog };
 
     fn plan(&self, alloc: Global, graph: &Graph, format: Format) -> Result<Plan, AllocError> {
         route_planner::plan(alloc, graph, format)

@@ -6,7 +6,7 @@ use Rattle.std.proofs.lemmas.Bool.Decides.{nat_tests}
 use Rattle.codec_graph.specs.declared.raw.RawNode.{RawNode}
 use Rattle.codec_graph.specs.declared.raw.RawCodec.{RawCodec}
 use Rattle.codec_graph.specs.declared.controls.Control.TheVariants as control
-use Rattle.codec_graph.specs.Widget.{node_at, is_output_converter, is_mixer, is_selector, is_pin, is_stereo, is_digital, input_amplifier_word}
+use Rattle.codec_graph.specs.Widget.{node_at, is_output_converter, is_mixer, is_selector, is_pin, is_stereo, input_amplifier_word}
 use Rattle.codec_graph.specs.Settings.{Entries, setting_of, has_eapd}
 use Rattle.codec_graph.specs.VerbMeaning.{pin_bits}
 use Rattle.codec_graph.specs.Cycles.{IsWellFormed}
@@ -17,18 +17,20 @@ use Rattle.codec_sound.specs.declared.signals.Signal.{Signal}
 use Rattle.codec_sound.specs.declared.signals.Signal.TheVariants.{Silence, Pair, Altered}
 use Rattle.codec_sound.specs.declared.streams.LinkStream.{LinkStream}
 use Rattle.codec_sound.specs.Amplifiers.{changed_if, is_muted, after_output, after_input}
-use Rattle.codec_sound.specs.Signals.{stream_of, is_off, takes, converts_otherwise, pair_from, tag_at, channel_at, converted, selected_place, selected, passed_on, made, given, is_silent_pin, comes_from, pin_hears}
+use Rattle.codec_sound.specs.Signals.{stream_of, is_off, takes, takes_as, is_enabled, is_foreign, converts_otherwise, pair_from, tag_at, channel_at, converted, selected_place, selected, passed_on, made, given, is_silent_pin, comes_from, pin_hears}
 use Rattle.setup_verbs.specs.VerbList.{drives_headphone}
 use Rattle.setup_verbs.specs.SetUp.{AreSidesMuted}
-use Rattle.setup_verbs.proofs.Wanted.{input_wanted}
+use Rattle.setup_verbs.proofs.Wanted.{input_wanted, pin_control_by}
 use Rattle.setup_verbs.proofs.Faultless.{faultless_at, input_offset, output_offset}
 use Rattle.setup_verbs.proofs.RoleFacts.{within_list}
-use Rattle.setup_verbs.proofs.Passing.{output_passes, input_passes, input_muted, mixed_one, made_cases, selector_case, converter_case, given_on, kept_mute, IsLeft}
-use Rattle.setup_verbs.proofs.Opened.{PassedSet, SourceSet}
+use Rattle.setup_verbs.proofs.Passing.{mixed_is, output_passes, input_passes, input_muted, mixed_one, made_cases, selector_case, converter_case, given_on, kept_mute, IsLeft}
+use Rattle.setup_verbs.proofs.Opened.{PassedSet, SourceSet, IsEnabledFor}
+use Rattle.route_planner.specs.declared.pin_kind.PinKind.{PinKind}
+use Rattle.route_planner.specs.declared.pin_kind.PinKind.TheVariants.{Analog, Digital}
 
-module _ (codec : RawCodec) (well : IsWellFormed codec) (s : Entries) (nid : ℕ) (node : RawNode) (there : node_at codec nid ≡ Some node) where
+module _ (kind : PinKind) (codec : RawCodec) (well : IsWellFormed codec) (s : Entries) (nid : ℕ) (node : RawNode) (there : node_at codec nid ≡ Some node) where
   -- each other input of a mixer is muted
-  pub others_muted : (index place : ℕ) → PassedSet codec s nid node index → IsLeft codec index node → is_mixer node ≡ true → index < length node.list → place < length node.list → place ≢ index → AreSidesMuted s nid place
+  pub others_muted : (index place : ℕ) → PassedSet kind codec s nid node index → IsLeft kind codec index node → is_mixer node ≡ true → index < length node.list → place < length node.list → place ≢ index → AreSidesMuted s nid place
   others_muted index place p left is within low other =
       let long : 2 ≤ length node.list = omega arith in
       let can = left.mixes is long in
@@ -38,9 +40,10 @@ module _ (codec : RawCodec) (well : IsWellFormed codec) (s : Entries) (nid : ℕ
         right = ap is_muted (p.mix_right (and_from _ _ is can.0) place low ∙ mutes) ∙ kept_mute (input_amplifier_word codec node) place can.1;
       }
 
-  mixer_made : (stream : LinkStream) (out : ℕ → Signal) (index from : ℕ) → PassedSet codec s nid node index → IsLeft codec index node → is_mixer node ≡ true → is_stereo node ≡ true → slice_get node.list index ≡ Some from → made codec s stream out nid node ≡ out from
+  mixer_made : (stream : LinkStream) (out : ℕ → Signal) (index from : ℕ) → PassedSet kind codec s nid node index → IsLeft kind codec index node → is_mixer node ≡ true → is_stereo node ≡ true → slice_get node.list index ≡ Some from → made kind codec s stream out nid node ≡ out from
   mixer_made stream out index from p left is stereo leads =
-      made_cases (bits_of node.caps 20 4) (is_stereo node) _ _ _ (eqb-true (bits_of node.caps 20 4) 2 is) stereo
+      ap (λ (M : Signal). cond (is_output_converter node) (converted kind s stream nid node) (cond (is_mixer node) M (cond (is_selector node) (changed_if (not (is_stereo node)) (passed_on codec s out nid node (selected s nid node))) Silence))) (mixed_is kind codec s out nid node left.unmixed is)
+      ∙ made_cases (bits_of node.caps 20 4) (is_stereo node) _ _ _ (eqb-true (bits_of node.caps 20 4) 2 is) stereo
       ∙ mixed_one codec s out nid node 0 index node.list index from leads (omega arith)
       (λ x. input_passes codec s nid node index index x (input_offset codec nid node well there) refl (λ has. few index within) (λ has. p.mix_left (and_from _ _ is has) index within) (λ has. p.mix_right (and_from _ _ is has) index within))
       (λ j x low high other. silent j x (omega arith) other)
@@ -59,48 +62,48 @@ module _ (codec : RawCodec) (well : IsWellFormed codec) (s : Entries) (nid : ℕ
           input_muted codec s nid node j x (left.mixes is long).0 (few j low) m.left m.right
 
   -- the selected place is the index
-  place_is : (index : ℕ) → PassedSet codec s nid node index → (is_selector node || is_pin node) ≡ true → index < length node.list → selected_place s nid node ≡ index
-  place_is index p kind within = by (cases_eq (length node.list) 1)
+  place_is : (index : ℕ) → PassedSet kind codec s nid node index → (is_selector node || is_pin node) ≡ true → index < length node.list → selected_place s nid node ≡ index
+  place_is index p which within = by (cases_eq (length node.list) 1)
     where
       by : (length node.list ≡ 1) ⊎ (length node.list ≢ 1) → cond (length node.list == 1) 0 (setting_of s nid control.Select) ≡ index
       by (inl one) = rw (eq-eqb (length node.list) 1 one) (omega arith)
-      by (inr more) = rw (ne_eqb (length node.list) 1 more) (p.select (and_from _ _ kind (long (length node.list) (omega arith))))
+      by (inr more) = rw (ne_eqb (length node.list) 1 more) (p.select (and_from _ _ which (long (length node.list) (omega arith))))
         where
           long : (n : ℕ) → 2 ≤ n → nat_le 2 n ≡ true
           long n h = grind (arith, nat_tests)
 
-  selected_is : (index from : ℕ) → PassedSet codec s nid node index → (is_selector node || is_pin node) ≡ true → slice_get node.list index ≡ Some from → selected s nid node ≡ Some from
-  selected_is index from p kind leads = ap (λ i. slice_get node.list i) (place_is index p kind (within_list node.list index from leads)) ∙ leads
+  selected_is : (index from : ℕ) → PassedSet kind codec s nid node index → (is_selector node || is_pin node) ≡ true → slice_get node.list index ≡ Some from → selected s nid node ≡ Some from
+  selected_is index from p which leads = ap (λ i. slice_get node.list i) (place_is index p which (within_list node.list index from leads)) ∙ leads
 
-  selector_made : (stream : LinkStream) (out : ℕ → Signal) (index from : ℕ) → PassedSet codec s nid node index → IsLeft codec index node → is_selector node ≡ true → is_stereo node ≡ true → slice_get node.list index ≡ Some from → made codec s stream out nid node ≡ out from
+  selector_made : (stream : LinkStream) (out : ℕ → Signal) (index from : ℕ) → PassedSet kind codec s nid node index → IsLeft kind codec index node → is_selector node ≡ true → is_stereo node ≡ true → slice_get node.list index ≡ Some from → made kind codec s stream out nid node ≡ out from
   selector_made stream out index from p left is stereo leads =
       selector_case (bits_of node.caps 20 4) (is_stereo node) _ _ _ (eqb-true (bits_of node.caps 20 4) 3 is) stereo
-      ∙ ap (λ (o : Option ℕ). passed_on codec s out nid node o) (selected_is index from p kind leads)
-      ∙ ap (λ i. after_input codec s nid node i (out from)) (place_is index p kind within)
+      ∙ ap (λ (o : Option ℕ). passed_on codec s out nid node o) (selected_is index from p which leads)
+      ∙ ap (λ i. after_input codec s nid node i (out from)) (place_is index p which within)
       ∙ input_passes codec s nid node index index (out from) (input_offset codec nid node well there) refl (λ has. left.selects is has) (λ has. p.sel_left (and_from _ _ is has)) (λ has. p.sel_right (and_from _ _ is has))
     where
-      kind : (is_selector node || is_pin node) ≡ true
-      kind = rw is refl
+      which : (is_selector node || is_pin node) ≡ true
+      which = rw is refl
 
       within : index < length node.list
       within = within_list node.list index from leads
 
   -- a mixer or selector of a route gives what its connection gives
-  pub inner_gives : (stream : LinkStream) (out : ℕ → Signal) (index from : ℕ) → PassedSet codec s nid node index → IsLeft codec index node → (is_mixer node || is_selector node) ≡ true → is_stereo node ≡ true → slice_get node.list index ≡ Some from → given codec s stream out nid node ≡ out from
-  inner_gives stream out index from p left kind stereo leads =
-      given_on codec s stream out nid node (out from) p.on
-      (output_passes codec s nid node (made codec s stream out nid node) (output_offset codec nid node well there) p.out_left p.out_right ∙ by (is_mixer node) refl kind)
+  pub inner_gives : (stream : LinkStream) (out : ℕ → Signal) (index from : ℕ) → PassedSet kind codec s nid node index → IsLeft kind codec index node → (is_mixer node || is_selector node) ≡ true → is_stereo node ≡ true → slice_get node.list index ≡ Some from → given kind codec s stream out nid node ≡ out from
+  inner_gives stream out index from p left which stereo leads =
+      given_on kind codec s stream out nid node (out from) p.on
+      (output_passes codec s nid node (made kind codec s stream out nid node) (output_offset codec nid node well there) p.out_left p.out_right ∙ by (is_mixer node) refl which)
     where
-      by : (b : Bool) → is_mixer node ≡ b → (b || is_selector node) ≡ true → made codec s stream out nid node ≡ out from
+      by : (b : Bool) → is_mixer node ≡ b → (b || is_selector node) ≡ true → made kind codec s stream out nid node ≡ out from
       by true e k = mixer_made stream out index from p left e stereo leads
       by false e k = selector_made stream out index from p left k stereo leads
 
   -- the converter of a route gives its pair
-  pub converter_gives : (format : Format) (tag pair : ℕ) (out : ℕ → Signal) → 1 ≤ tag → tag ≤ 15 → SourceSet codec format tag s nid node pair → is_output_converter node ≡ true → is_stereo node ≡ true → is_digital node ≡ false → 2 * pair + 1 < format.channels
-      → given codec s (stream_of tag format) out nid node ≡ Pair pair
-  converter_gives format tag pair out some few p is stereo analog fits =
-      given_on codec s (stream_of tag format) out nid node (Pair pair) p.on
-      (output_passes codec s nid node (made codec s (stream_of tag format) out nid node) (output_offset codec nid node well there) p.out_left p.out_right
+  pub converter_gives : (format : Format) (tag pair : ℕ) (out : ℕ → Signal) → 1 ≤ tag → tag ≤ 15 → SourceSet kind codec format tag s nid node pair → is_output_converter node ≡ true → is_stereo node ≡ true → is_foreign kind node ≡ false → 2 * pair + 1 < format.channels
+      → given kind codec s (stream_of tag format) out nid node ≡ Pair pair
+  converter_gives format tag pair out some few p is stereo own fits =
+      given_on kind codec s (stream_of tag format) out nid node (Pair pair) p.on
+      (output_passes codec s nid node (made kind codec s (stream_of tag format) out nid node) (output_offset codec nid node well there) p.out_left p.out_right
       ∙ converter_case (bits_of node.caps 20 4) _ _ (eqb-true (bits_of node.caps 20 4) 0 is)
       ∙ converts)
     where
@@ -125,8 +128,15 @@ module _ (codec : RawCodec) (well : IsWellFormed codec) (s : Entries) (nid : ℕ
           both : (t : ℕ) → 1 ≤ t → (not (t == 0) && (t == t)) ≡ true
           both t h = grind (arith, nat_tests)
 
-      as-it-is : converts_otherwise s (stream_of tag format) nid node ≡ false
-      as-it-is = rw (channel-is, p.format_set, analog, stereo) (even (format_word format) pair format.channels)
+      takes-as : takes_as kind s (stream_of tag format) nid ≡ true
+      takes-as = by kind p.enabled
+        where
+          by : (k : PinKind) → IsEnabledFor k s nid → takes_as k s (stream_of tag format) nid ≡ true
+          by Analog enabled = takes-it
+          by Digital enabled = and_from (takes s (stream_of tag format) nid) (is_enabled s nid) takes-it enabled
+
+      as-it-is : converts_otherwise kind s (stream_of tag format) nid node ≡ false
+      as-it-is = rw (channel-is, p.format_set, own, stereo) (even (format_word format) pair format.channels)
         where
           even : (w q n : ℕ) → (not (w == w) || false || not true || (2 * q % 2 == 1 && nat_lt (2 * q) n)) ≡ false
           even w q n = let z : 2 * q % 2 ≡ 0 = omega arith in rw (eq-eqb w w refl, z) refl
@@ -137,8 +147,8 @@ module _ (codec : RawCodec) (well : IsWellFormed codec) (s : Entries) (nid : ℕ
           from : (q n : ℕ) → 2 * q + 1 < n → cond (nat_lt (2 * q) n) (Pair (2 * q / 2)) Silence ≡ Pair q
           from q n h = let z : 2 * q / 2 ≡ q = omega arith in rw (lt-ltb (2 * q) n (omega arith), z) refl
 
-      converts : converted s (stream_of tag format) nid node ≡ Pair pair
-      converts = by (takes s (stream_of tag format) nid) (converts_otherwise s (stream_of tag format) nid node) takes-it as-it-is
+      converts : converted kind s (stream_of tag format) nid node ≡ Pair pair
+      converts = by (takes_as kind s (stream_of tag format) nid) (converts_otherwise kind s (stream_of tag format) nid node) takes-as as-it-is
         where
           by : (b c : Bool) → b ≡ true → c ≡ false → cond b (cond c Altered (pair_from (stream_of tag format) (channel_at s nid))) Silence ≡ Pair pair
           by true false e f = begins
@@ -146,29 +156,33 @@ module _ (codec : RawCodec) (well : IsWellFormed codec) (s : Entries) (nid : ℕ
           by false c e f = cc
 
   -- a pin of a route hears what its connection gives
-  pub pin_hears_it : (out : ℕ → Signal) (index from : ℕ) → PassedSet codec s nid node index → is_pin node ≡ true → is_stereo node ≡ true → is_digital node ≡ false → has_bit node.pin_caps 4 ≡ true → slice_get node.list index ≡ Some from → pin_hears codec s out nid node ≡ out from
-  pin_hears_it out index from p is stereo analog drives leads =
+  pub pin_hears_it : (out : ℕ → Signal) (index from : ℕ) → PassedSet kind codec s nid node index → is_pin node ≡ true → is_stereo node ≡ true → is_foreign kind node ≡ false → has_bit node.pin_caps 4 ≡ true → slice_get node.list index ≡ Some from → pin_hears kind codec s out nid node ≡ out from
+  pin_hears_it out index from p is stereo own drives leads =
       sounds (is_silent_pin codec s nid node) loud
-      ∙ rw (stereo, analog) (output_passes codec s nid node (comes_from out (selected s nid node)) (output_offset codec nid node well there) p.out_left p.out_right)
-      ∙ ap (λ (o : Option ℕ). comes_from out o) (selected_is index from p kind leads)
+      ∙ rw (stereo, own) (output_passes codec s nid node (comes_from out (selected s nid node)) (output_offset codec nid node well there) p.out_left p.out_right)
+      ∙ ap (λ (o : Option ℕ). comes_from out o) (selected_is index from p which leads)
     where
-      kind : (is_selector node || is_pin node) ≡ true
-      kind = by (is_selector node)
+      which : (is_selector node || is_pin node) ≡ true
+      which = by (is_selector node)
         where
           by : (b : Bool) → (b || is_pin node) ≡ true
           by true = refl
           by false = is
 
-      sounds : (b : Bool) → b ≡ false → cond b Silence (changed_if (not (is_stereo node) || is_digital node) (after_output codec s nid node (comes_from out (selected s nid node)))) ≡ changed_if (not (is_stereo node) || is_digital node) (after_output codec s nid node (comes_from out (selected s nid node)))
+      sounds : (b : Bool) → b ≡ false → cond b Silence (changed_if (not (is_stereo node) || is_foreign kind node) (after_output codec s nid node (comes_from out (selected s nid node)))) ≡ changed_if (not (is_stereo node) || is_foreign kind node) (after_output codec s nid node (comes_from out (selected s nid node)))
       sounds true e = cc
       sounds false e = refl
 
       enabled : has_bit (setting_of s nid control.Pin) 6 ≡ true
-      enabled = ap (λ v. has_bit v 6) (p.pin is) ∙ by (drives_headphone node)
+      enabled = ap (λ v. has_bit v 6) (p.pin is) ∙ by kind (drives_headphone node)
         where
-          by : (b : Bool) → has_bit (bit_and (cond b 0xC0 0x40) pin_bits) 6 ≡ true
-          by true = refl
-          by false = refl
+          either : (b : Bool) → has_bit (bit_and (cond b 0xC0 0x40) pin_bits) 6 ≡ true
+          either true = refl
+          either false = refl
+
+          by : (k : PinKind) (b : Bool) → has_bit (bit_and (pin_control_by k b) pin_bits) 6 ≡ true
+          by Analog b = either b
+          by Digital b = refl
 
       amplified-on : (has_eapd node && not (has_bit (setting_of s nid control.Eapd) 1)) ≡ false
       amplified-on = by (has_eapd node) refl

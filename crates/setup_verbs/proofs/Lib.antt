@@ -13,6 +13,7 @@ pub mod Passing
 pub mod Opened
 pub mod Heard
 pub mod Final
+pub mod DigitalOpened
 pub mod Ranged
 pub mod Callers
 mod Worked

@@ -12,11 +12,12 @@ use Rattle.verb_codes.specs.declared.verbs.Command.{Command}
 use Rattle.verb_codes.specs.declared.verbs.Verb.{Verb}
 use Rattle.verb_codes.specs.declared.verbs.Verb.TheVariants.{SetPower}
 use Rattle.stream_format.specs.declared.format.Format.{Format}
+use Rattle.route_planner.specs.declared.pin_kind.PinKind.{PinKind}
 use Rattle.route_planner.specs.declared.routes.Plan.{Plan}
 use Rattle.setup_verbs.specs.declared.steps.Step.{Step}
 use Rattle.setup_verbs.specs.declared.steps.Step.TheVariants.{Power, Silence, Release, Route}
 use Rattle.setup_verbs.specs.Roles.{role_of}
-use Rattle.setup_verbs.specs.VerbList.{only_if, command_to, to_below, to_all, at_widget, setup_verbs}
+use Rattle.setup_verbs.specs.VerbList.{only_if, command_to, to_below, to_all, at_widget, setup_verbs_as}
 use Rattle.setup_verbs.specs.Steps.{step_verbs, commands_at, commands_of}
 
 -- ---- all
@@ -34,24 +35,24 @@ unfolding to_all
 all_all P step h = all_below P step 128 h
 
 -- a fact of the verbs of each step at each widget
-abbrev pub OfSteps : (Command → Type 0) → RawCodec → Plan → Format → ℕ → Type 0
-OfSteps P codec plan format tag = (s : Step) (nid : ℕ) (node : RawNode) → node_at codec nid ≡ Some node
-    → All (λ (verb : Verb). P (command_to codec nid verb)) (step_verbs codec plan format tag s nid node (role_of plan nid))
+abbrev pub OfSteps : (Command → Type 0) → PinKind → RawCodec → Plan → Format → ℕ → Type 0
+OfSteps P kind codec plan format tag = (s : Step) (nid : ℕ) (node : RawNode) → node_at codec nid ≡ Some node
+    → All (λ (verb : Verb). P (command_to codec nid verb)) (step_verbs kind codec plan format tag s nid node (role_of plan nid))
 
-all_step : (P : Command → Type 0) (codec : RawCodec) (plan : Plan) (format : Format) (tag : ℕ) (s : Step) → OfSteps P codec plan format tag → All P (commands_of codec plan format tag s)
-all_step P codec plan format tag s of = all_all P (commands_at codec plan format tag s) (λ nid. All-map P (command_to codec nid) (at_widget (step_verbs codec plan format tag s nid) (node_at codec nid) (role_of plan nid)) (at nid (node_at codec nid) refl))
+all_step : (P : Command → Type 0) (kind : PinKind) (codec : RawCodec) (plan : Plan) (format : Format) (tag : ℕ) (s : Step) → OfSteps P kind codec plan format tag → All P (commands_of kind codec plan format tag s)
+all_step P kind codec plan format tag s of = all_all P (commands_at kind codec plan format tag s) (λ nid. All-map P (command_to codec nid) (at_widget (step_verbs kind codec plan format tag s nid) (node_at codec nid) (role_of plan nid)) (at nid (node_at codec nid) refl))
   where
-    at : (nid : ℕ) (o : Option RawNode) → node_at codec nid ≡ o → All (λ (verb : Verb). P (command_to codec nid verb)) (at_widget (step_verbs codec plan format tag s nid) o (role_of plan nid))
+    at : (nid : ℕ) (o : Option RawNode) → node_at codec nid ≡ o → All (λ (verb : Verb). P (command_to codec nid verb)) (at_widget (step_verbs kind codec plan format tag s nid) o (role_of plan nid))
     at nid None e = All-nil (λ (verb : Verb). P (command_to codec nid verb))
     at nid (Some node) e = of s nid node e
 
-pub all_verbs : (P : Command → Type 0) (codec : RawCodec) (plan : Plan) (format : Format) (tag : ℕ) → P (command_to codec codec.group (SetPower 0)) → OfSteps P codec plan format tag → All P (setup_verbs codec plan format tag)
-unfolding setup_verbs
-all_verbs P codec plan format tag group of =
+pub all_verbs : (P : Command → Type 0) (kind : PinKind) (codec : RawCodec) (plan : Plan) (format : Format) (tag : ℕ) → P (command_to codec codec.group (SetPower 0)) → OfSteps P kind codec plan format tag → All P (setup_verbs_as kind codec plan format tag)
+unfolding setup_verbs_as
+all_verbs P kind codec plan format tag group of =
     All-cons P (command_to codec codec.group (SetPower 0)) _ group
-    (All-append P (commands_of codec plan format tag Power) _ (all_step P codec plan format tag Power of)
-    (All-append P (commands_of codec plan format tag Silence) _ (all_step P codec plan format tag Silence of)
-    (All-append P (commands_of codec plan format tag Release) _ (all_step P codec plan format tag Release of) (all_step P codec plan format tag Route of))))
+    (All-append P (commands_of kind codec plan format tag Power) _ (all_step P kind codec plan format tag Power of)
+    (All-append P (commands_of kind codec plan format tag Silence) _ (all_step P kind codec plan format tag Silence of)
+    (All-append P (commands_of kind codec plan format tag Release) _ (all_step P kind codec plan format tag Release of) (all_step P kind codec plan format tag Route of))))
 
 -- ---- members
 
@@ -74,28 +75,28 @@ has_all : (step : ℕ → List Command) (nid : ℕ) (command : Command) → nid 
 unfolding to_all
 has_all step nid command lt has = has_below step 128 nid command lt has
 
-has_step : (codec : RawCodec) (plan : Plan) (format : Format) (tag : ℕ) (s : Step) (nid : ℕ) (node : RawNode) (verb : Verb) → nid < 128 → node_at codec nid ≡ Some node
-    → Contains (step_verbs codec plan format tag s nid node (role_of plan nid)) verb → Contains (commands_of codec plan format tag s) (command_to codec nid verb)
-has_step codec plan format tag s nid node verb lt there has =
-    has_all (commands_at codec plan format tag s) nid (command_to codec nid verb) lt
-    (has_mapped (command_to codec nid) (at_widget (step_verbs codec plan format tag s nid) (node_at codec nid) (role_of plan nid)) verb
-    (subst (λ (o : Option RawNode). Contains (at_widget (step_verbs codec plan format tag s nid) o (role_of plan nid)) verb) (sym there) has))
+has_step : (kind : PinKind) (codec : RawCodec) (plan : Plan) (format : Format) (tag : ℕ) (s : Step) (nid : ℕ) (node : RawNode) (verb : Verb) → nid < 128 → node_at codec nid ≡ Some node
+    → Contains (step_verbs kind codec plan format tag s nid node (role_of plan nid)) verb → Contains (commands_of kind codec plan format tag s) (command_to codec nid verb)
+has_step kind codec plan format tag s nid node verb lt there has =
+    has_all (commands_at kind codec plan format tag s) nid (command_to codec nid verb) lt
+    (has_mapped (command_to codec nid) (at_widget (step_verbs kind codec plan format tag s nid) (node_at codec nid) (role_of plan nid)) verb
+    (subst (λ (o : Option RawNode). Contains (at_widget (step_verbs kind codec plan format tag s nid) o (role_of plan nid)) verb) (sym there) has))
 
-pub has_group : (codec : RawCodec) (plan : Plan) (format : Format) (tag : ℕ) → Contains (setup_verbs codec plan format tag) (command_to codec codec.group (SetPower 0))
-unfolding setup_verbs
-has_group codec plan format tag = (0, omega arith, refl)
+pub has_group : (kind : PinKind) (codec : RawCodec) (plan : Plan) (format : Format) (tag : ℕ) → Contains (setup_verbs_as kind codec plan format tag) (command_to codec codec.group (SetPower 0))
+unfolding setup_verbs_as
+has_group kind codec plan format tag = (0, omega arith, refl)
 
 has_cons : {X : Type 0} (x : X) (xs : List X) (y : X) → Contains xs y → Contains (x ∷ xs) y
 has_cons x xs y c = (suc c.0, omega (arith, c.1), c.2)
 
 -- a verb of a step at a widget is among all
-pub has_verb : (codec : RawCodec) (plan : Plan) (format : Format) (tag : ℕ) (s : Step) (nid : ℕ) (node : RawNode) (verb : Verb) → nid < 128 → node_at codec nid ≡ Some node
-    → Contains (step_verbs codec plan format tag s nid node (role_of plan nid)) verb → Contains (setup_verbs codec plan format tag) (command_to codec nid verb)
-unfolding setup_verbs
-has_verb codec plan format tag s nid node verb lt there has = has_cons _ _ _ (by s (has_step codec plan format tag s nid node verb lt there has))
+pub has_verb : (kind : PinKind) (codec : RawCodec) (plan : Plan) (format : Format) (tag : ℕ) (s : Step) (nid : ℕ) (node : RawNode) (verb : Verb) → nid < 128 → node_at codec nid ≡ Some node
+    → Contains (step_verbs kind codec plan format tag s nid node (role_of plan nid)) verb → Contains (setup_verbs_as kind codec plan format tag) (command_to codec nid verb)
+unfolding setup_verbs_as
+has_verb kind codec plan format tag s nid node verb lt there has = has_cons _ _ _ (by s (has_step kind codec plan format tag s nid node verb lt there has))
   where
-    by : (t : Step) → Contains (commands_of codec plan format tag t) (command_to codec nid verb) → Contains (commands_of codec plan format tag Power ++ (commands_of codec plan format tag Silence ++ (commands_of codec plan format tag Release ++ commands_of codec plan format tag Route))) (command_to codec nid verb)
-    by Power c = Contains-append_left (commands_of codec plan format tag Power) _ _ c
-    by Silence c = Contains-append_right (commands_of codec plan format tag Power) _ _ (Contains-append_left (commands_of codec plan format tag Silence) _ _ c)
-    by Release c = Contains-append_right (commands_of codec plan format tag Power) _ _ (Contains-append_right (commands_of codec plan format tag Silence) _ _ (Contains-append_left (commands_of codec plan format tag Release) _ _ c))
-    by Route c = Contains-append_right (commands_of codec plan format tag Power) _ _ (Contains-append_right (commands_of codec plan format tag Silence) _ _ (Contains-append_right (commands_of codec plan format tag Release) _ _ c))
+    by : (t : Step) → Contains (commands_of kind codec plan format tag t) (command_to codec nid verb) → Contains (commands_of kind codec plan format tag Power ++ (commands_of kind codec plan format tag Silence ++ (commands_of kind codec plan format tag Release ++ commands_of kind codec plan format tag Route))) (command_to codec nid verb)
+    by Power c = Contains-append_left (commands_of kind codec plan format tag Power) _ _ c
+    by Silence c = Contains-append_right (commands_of kind codec plan format tag Power) _ _ (Contains-append_left (commands_of kind codec plan format tag Silence) _ _ c)
+    by Release c = Contains-append_right (commands_of kind codec plan format tag Power) _ _ (Contains-append_right (commands_of kind codec plan format tag Silence) _ _ (Contains-append_left (commands_of kind codec plan format tag Release) _ _ c))
+    by Route c = Contains-append_right (commands_of kind codec plan format tag Power) _ _ (Contains-append_right (commands_of kind codec plan format tag Silence) _ _ (Contains-append_right (commands_of kind codec plan format tag Release) _ _ c))

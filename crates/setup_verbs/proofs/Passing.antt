@@ -1,23 +1,25 @@
 -- What an opened node lets pass.
-use Rattle.std.proofs.Common.{◌≡◌, ◌≢◌, ◌<◌, ◌≤◌, ◌+◌, ◌/◌, ◌%◌, ◌^◌, ◌==◌, ◌&&◌, not, ℕ, zero, suc, Bool, true, false, cond, List, [], ◌∷◌, length, Some, refl, ap, ◌∙◌, arith, lit<}
+use Rattle.std.proofs.Common.{◌≡◌, ◌≢◌, ◌<◌, ◌≤◌, ◌+◌, ◌/◌, ◌%◌, ◌^◌, ◌==◌, ◌&&◌, not, ℕ, zero, suc, Bool, true, false, cond, List, [], ◌∷◌, length, Some, refl, sym, ap, ◌∙◌, arith, lit<}
 use Rattle.std.specs.Prelude.{slice_get, nat_lt, nat_le, min}
-use Rattle.std.proofs.lemmas.Bool.{and_parts, leb-true, eq-eqb, lt-ltb}
+use Rattle.std.proofs.lemmas.Bool.{and_parts, leb-true, eq-eqb, lt-ltb, true≢false}
 use Rattle.std.proofs.lemmas.Bool.Decides.{nat_tests}
 use Rattle.std.proofs.lemmas.Nat.{mod_below}
 use Rattle.std.proofs.lemmas.Option.{none-some}
 use Rattle.codec_graph.specs.declared.raw.RawNode.{RawNode}
 use Rattle.codec_graph.specs.declared.raw.RawCodec.{RawCodec}
 use Rattle.codec_graph.specs.declared.controls.Control.TheVariants as control
-use Rattle.codec_graph.specs.Widget.{is_mixer, is_selector, has_input_amplifier, has_output_amplifier, input_amplifier_word, output_amplifier_word, amplifier_offset, amplifier_steps, can_mute, most_amplified}
+use Rattle.codec_graph.specs.Widget.{is_mixer, is_selector, is_stereo, has_input_amplifier, has_output_amplifier, input_amplifier_word, output_amplifier_word, amplifier_offset, amplifier_steps, can_mute, most_amplified}
 use Rattle.codec_graph.specs.Settings.{Entries, setting_of}
 use Rattle.codec_graph.specs.VerbMeaning.{kept_amplifier}
 use Rattle.verb_codes.specs.Words.{has_bit, bits_of}
-use Rattle.route_planner.specs.Paths.{can_be_left}
+use Rattle.route_planner.specs.declared.pin_kind.PinKind.{PinKind}
+use Rattle.route_planner.specs.declared.pin_kind.PinKind.TheVariants.{Analog, Digital}
+use Rattle.route_planner.specs.Paths.{can_be_left, can_be_left_as, passes_digital}
 use Rattle.codec_sound.specs.declared.signals.Signal.{Signal}
 use Rattle.codec_sound.specs.declared.signals.Signal.TheVariants.{Silence, Pair, Altered}
 use Rattle.codec_sound.specs.declared.streams.LinkStream.{LinkStream}
 use Rattle.codec_sound.specs.Amplifiers.{changed_if, is_muted, is_neutral, amplified, after_output, after_input}
-use Rattle.codec_sound.specs.Signals.{is_off, sum_of, mixed, made, given}
+use Rattle.codec_sound.specs.Signals.{is_off, sum_of, mixed, mixed_as, made, given}
 use Rattle.setup_verbs.specs.VerbList.{input_setting, output_setting}
 use Rattle.setup_verbs.proofs.Wanted.{input_wanted, output_wanted}
 
@@ -139,34 +141,56 @@ mixed_one codec settings out nid node place index (x ∷ list) (suc k) from ther
 
 -- ---- what an opened node makes
 
+-- a digital route passes no mixer, and no selector with an input amplifier
+abbrev pub IsUnmixed : PinKind → RawNode → Type 0
+IsUnmixed Analog node = Unit {0}
+IsUnmixed Digital node = (is_mixer node ≡ false) × ((is_selector node && has_input_amplifier node) ≡ false)
+
+-- a mixer of a route is analog
+pub mixed_is : (kind : PinKind) (codec : RawCodec) (settings : Entries) (out : ℕ → Signal) (nid : ℕ) (node : RawNode) → IsUnmixed kind node → is_mixer node ≡ true
+    → mixed_as kind codec settings out nid node ≡ changed_if (not (is_stereo node)) (mixed codec settings out nid node 0 node.list)
+mixed_is Analog codec settings out nid node unmixed is = refl
+mixed_is Digital codec settings out nid node unmixed is = absurd (true≢false (sym is ∙ unmixed.0))
+
 pub made_cases : (n : ℕ) (stereo : Bool) (C M S : Signal) → (n ≡ 2 → stereo ≡ true → cond (n == 0) C (cond (n == 2) (changed_if (not stereo) M) (cond (n == 3) (changed_if (not stereo) S) Silence)) ≡ M)
 made_cases n stereo C M S e f = rw (e, f) refl
 
-pub selector_case : (n : ℕ) (stereo : Bool) (C M S : Signal) → n ≡ 3 → stereo ≡ true → cond (n == 0) C (cond (n == 2) (changed_if (not stereo) M) (cond (n == 3) (changed_if (not stereo) S) Silence)) ≡ S
+pub selector_case : (n : ℕ) (stereo : Bool) (C M S : Signal) → n ≡ 3 → stereo ≡ true → cond (n == 0) C (cond (n == 2) M (cond (n == 3) (changed_if (not stereo) S) Silence)) ≡ S
 selector_case n stereo C M S e f = rw (e, f) refl
 
 pub converter_case : (n : ℕ) (C X : Signal) → n ≡ 0 → cond (n == 0) C X ≡ C
 converter_case n C X e = rw e refl
 
 -- a node that is on gives what it makes through an output that passes
-pub given_on : (codec : RawCodec) (settings : Entries) (stream : LinkStream) (out : ℕ → Signal) (nid : ℕ) (node : RawNode) (s : Signal) → is_off codec settings nid node ≡ false → after_output codec settings nid node (made codec settings stream out nid node) ≡ s → given codec settings stream out nid node ≡ s
-given_on codec settings stream out nid node s on e = by (is_off codec settings nid node) on
+pub given_on : (kind : PinKind) (codec : RawCodec) (settings : Entries) (stream : LinkStream) (out : ℕ → Signal) (nid : ℕ) (node : RawNode) (s : Signal) → is_off codec settings nid node ≡ false → after_output codec settings nid node (made kind codec settings stream out nid node) ≡ s → given kind codec settings stream out nid node ≡ s
+given_on kind codec settings stream out nid node s on e = by (is_off codec settings nid node) on
   where
-    by : (b : Bool) → b ≡ false → cond b Silence (after_output codec settings nid node (made codec settings stream out nid node)) ≡ s
+    by : (b : Bool) → b ≡ false → cond b Silence (after_output codec settings nid node (made kind codec settings stream out nid node)) ≡ s
     by true h = cc
     by false h = e
 
 -- the amplifier of the index can be reached, and a mixer with a choice can mute
-pub record IsLeft (codec : RawCodec) (index : ℕ) (node : RawNode) : Type 0 where
+pub record IsLeft (kind : PinKind) (codec : RawCodec) (index : ℕ) (node : RawNode) : Type 0 where
   pub mixes : is_mixer node ≡ true → 2 ≤ length node.list → (has_input_amplifier node ≡ true) × (can_mute (input_amplifier_word codec node) ≡ true)
   pub selects : is_selector node ≡ true → has_input_amplifier node ≡ true → index < 16
+  pub unmixed : IsUnmixed kind node
 
-pub left_from : (codec : RawCodec) (index : ℕ) (node : RawNode) → can_be_left codec index node ≡ true → IsLeft codec index node
-left_from codec index node e =
+not_both : (a b : Bool) → a ≡ true → b ≡ true → (a && b) ≡ false → ⊥
+not_both true true x y e = cc
+not_both true false x y e = cc
+not_both false b x y e = cc
+
+no_longer : (b : Bool) → not b ≡ true → b ≡ false
+no_longer true e = cc
+no_longer false e = refl
+
+left_analog : (codec : RawCodec) (index : ℕ) (node : RawNode) → can_be_left codec index node ≡ true → IsLeft Analog codec index node
+left_analog codec index node e =
     let parts = and_parts _ _ e in
     record {
       mixes = λ is long. and_parts _ _ (first (is_mixer node) (nat_le 2 (length node.list)) _ is (long_test (length node.list) long) parts.0);
       selects = λ is has. let z = leb-true index 15 (first (is_selector node) (has_input_amplifier node) _ is has parts.1) in omega arith;
+      unmixed = tt;
     }
   where
     first : (a b c : Bool) → a ≡ true → b ≡ true → cond (a && b) c true ≡ true → c ≡ true
@@ -176,3 +200,18 @@ left_from codec index node e =
 
     long_test : (n : ℕ) → 2 ≤ n → nat_le 2 n ≡ true
     long_test n h = grind (arith, nat_tests)
+
+left_digital : (codec : RawCodec) (index : ℕ) (node : RawNode) → passes_digital node ≡ true → IsLeft Digital codec index node
+left_digital codec index node e =
+    let parts = and_parts (not (is_mixer node)) (not (is_selector node && has_input_amplifier node)) e in
+    let unmixed = no_longer (is_mixer node) parts.0 in
+    let unamplified = no_longer (is_selector node && has_input_amplifier node) parts.1 in
+    record {
+      mixes = λ is long. absurd (true≢false (sym is ∙ unmixed));
+      selects = λ is has. absurd (not_both (is_selector node) (has_input_amplifier node) is has unamplified);
+      unmixed = (unmixed, unamplified);
+    }
+
+pub left_from : (kind : PinKind) (codec : RawCodec) (index : ℕ) (node : RawNode) → can_be_left_as kind codec index node ≡ true → IsLeft kind codec index node
+left_from Analog codec index node e = left_analog codec index node e
+left_from Digital codec index node e = left_digital codec index node e

@@ -1,5 +1,5 @@
 -- Each set-up verb goes to the codec, and can be encoded where that is one of 0 to 14.
-use Rattle.std.proofs.Common.{◌≡◌, ◌<◌, ◌≤◌, ◌+◌, ◌*◌, ◌^◌, ◌/◌, ◌==◌, ◌&&◌, not, ℕ, Bool, true, false, cond, List, [], ◌∷◌, map, length, get_or, zero-add, refl, sym, subst, ◌∙◌, arith, lit<}
+use Rattle.std.proofs.Common.{◌≡◌, ◌<◌, ◌≤◌, ◌+◌, ◌*◌, ◌^◌, ◌/◌, ◌==◌, ◌&&◌, ◌++◌, not, ℕ, Bool, true, false, cond, List, [], ◌∷◌, map, length, get_or, zero-add, refl, sym, subst, ◌∙◌, arith, lit<}
 use Rattle.std.specs.Prelude.{All, nat_lt}
 use Rattle.std.specs.List.{range_with_len}
 use Rattle.std.proofs.lemmas.Bool.{and_parts, lt-ltb}
@@ -13,15 +13,17 @@ use Rattle.codec_graph.specs.Settings.{has_eapd, detects_presence, sends_unsolic
 use Rattle.codec_graph.specs.Cycles.{IsWellFormed}
 use Rattle.codec_graph.proofs.Callers.{node_below, counted}
 use Rattle.verb_codes.specs.declared.verbs.Verb.{Verb}
-use Rattle.verb_codes.specs.declared.verbs.Verb.TheVariants.{SetPower, SetStream, SetPin, SetUnsol, SetEapd, SetFormat}
+use Rattle.verb_codes.specs.declared.verbs.Verb.TheVariants.{SetPower, SetStream, SetPin, SetUnsol, SetEapd, SetFormat, SetDigital}
 use Rattle.verb_codes.specs.Verbs.{is_verb_in_range}
 use Rattle.verb_codes.specs.Amplifiers as amplifiers
 use Rattle.stream_format.specs.declared.format.Format.{Format}
 use Rattle.stream_format.specs.Words.{format_word}
 use Rattle.stream_format.proofs.Callers.{word_small}
+use Rattle.route_planner.specs.declared.pin_kind.PinKind.{PinKind}
+use Rattle.route_planner.specs.declared.pin_kind.PinKind.TheVariants.{Analog, Digital}
 use Rattle.route_planner.specs.declared.routes.Plan.{Plan}
 use Rattle.route_planner.specs.declared.routes.PinPlan.{PinPlan}
-use Rattle.route_planner.specs.Plans.{IsPlan}
+use Rattle.route_planner.specs.Plans.{IsPlanAs}
 use Rattle.setup_verbs.specs.declared.roles.Role.{Role}
 use Rattle.setup_verbs.specs.declared.roles.Role.TheVariants.{Unused, Passed, Source}
 use Rattle.setup_verbs.specs.declared.steps.Step.{Step}
@@ -29,7 +31,7 @@ use Rattle.setup_verbs.specs.declared.steps.Step.TheVariants.{Power, Silence, Re
 use Rattle.setup_verbs.specs.Roles.{role_of, is_used, place_among}
 use Rattle.setup_verbs.specs.Steps.{step_verbs, FitsWidget}
 use Rattle.setup_verbs.specs.SetUp.{IsCommandOf}
-use Rattle.setup_verbs.specs.VerbList.{only_if, command_to, input_setting, output_setting, pass_input, mute_input, mixer_input, mixer_verbs, has_choice, select_verbs, selector_verbs, output_verbs, drives_headphone, pin_control, event_tag, setup_verbs}
+use Rattle.setup_verbs.specs.VerbList.{only_if, command_to, input_setting, output_setting, pass_input, mute_input, mixer_input, mixer_verbs, has_choice, select_verbs, selector_verbs, output_verbs, enable_verbs, passed_verbs_as, drives_headphone, pin_control, event_tag, setup_verbs_as}
 use Rattle.setup_verbs.proofs.Members.{all_if, all_verbs}
 use Rattle.route_planner.proofs.Callers.{IsBounded-from_sound}
 use Rattle.setup_verbs.proofs.RoleFacts.{IsUsedWell, role_well}
@@ -66,7 +68,7 @@ IsNarrow Unused = Unit {0}
 IsNarrow (Passed index) = index < 2 ^ 8
 IsNarrow (Source pair) = Unit {0}
 
-module _ (codec : RawCodec) (plan : Plan) (format : Format) (tag nid : ℕ) (node : RawNode) (few : tag ≤ 15) where
+module _ (kind : PinKind) (codec : RawCodec) (plan : Plan) (format : Format) (tag nid : ℕ) (node : RawNode) (few : tag ≤ 15) where
   pass_fits : (place : ℕ) → place < 16 → Fits (pass_input codec node place)
   pass_fits place low = short_fits _ 16 (input_small place (amplifier_offset (input_amplifier_word codec node)) false low (offset_small (input_amplifier_word codec node)))
 
@@ -97,30 +99,46 @@ module _ (codec : RawCodec) (plan : Plan) (format : Format) (tag nid : ℕ) (nod
       by true = lit< tt
       by false = lit< tt
 
-  route_fits : (role : Role) → FitsWidget plan node role → IsNarrow role → All Fits (step_verbs codec plan format tag Route nid node role)
-  route_fits Unused fits narrow = All-nil Fits
-  route_fits (Passed index) fits narrow =
+  eapd_fits : All Fits (only_if (has_eapd node) (SetEapd 0x02))
+  eapd_fits = all_if Fits (has_eapd node) _ (λ h. refl)
+
+  enable_fits : (k : PinKind) → All Fits (enable_verbs k)
+  enable_fits Analog = All-nil Fits
+  enable_fits Digital = All-cons Fits (SetDigital 0x01) [] refl (All-nil Fits)
+
+  passed_fits : (k : PinKind) (index : ℕ) → FitsWidget plan node (Passed index) → index < 2 ^ 8 → All Fits (passed_verbs_as k codec plan nid node index)
+  passed_fits Analog index fits narrow =
       All-append Fits (mixer_verbs codec node index) _ (mixer_fits index fits.inputs)
       (All-append Fits (select_verbs node index) _ (all_if Fits (has_choice node) _ (λ h. short_fits index 8 narrow))
       (All-append Fits (selector_verbs codec node index) _ (all_if Fits (is_selector node && has_input_amplifier node) _ (λ h. pass_fits index (fits.argument h)))
       (All-append Fits (output_verbs codec node) _ output_fits
-      (All-append Fits (only_if (has_eapd node) (SetEapd 0x02)) _ (all_if Fits (has_eapd node) _ (λ h. refl))
+      (All-append Fits (only_if (has_eapd node) (SetEapd 0x02)) _ eapd_fits
       (All-append Fits (only_if (detects_presence node && sends_unsolicited node) (SetUnsol (0x80 + event_tag plan nid))) _ (all_if Fits (detects_presence node && sends_unsolicited node) _ (λ h. short_fits _ 8 (let z = place_small plan.pins nid in let y = fits.pins in omega arith)))
       (all_if Fits (is_pin node) _ (λ h. short_fits _ 8 pin_control_fits)))))))
-  route_fits (Source pair) fits narrow =
-      All-cons Fits (SetFormat (format_word format)) (SetStream (tag * 2 ^ 4 + 2 * pair) ∷ output_verbs codec node) (short_fits (format_word format) 16 (word_small format))
-      (All-cons Fits (SetStream (tag * 2 ^ 4 + 2 * pair)) (output_verbs codec node) (short_fits _ 8 (let z = fits.argument in omega arith)) output_fits)
+  passed_fits Digital index fits narrow =
+      All-append Fits (select_verbs node index) _ (all_if Fits (has_choice node) _ (λ h. short_fits index 8 narrow))
+      (All-append Fits (output_verbs codec node) _ output_fits
+      (All-append Fits (only_if (has_eapd node) (SetEapd 0x02)) _ eapd_fits
+      (all_if Fits (is_pin node) _ (λ h. refl))))
 
-  step_fits : (s : Step) (role : Role) → FitsWidget plan node role → IsNarrow role → All Fits (step_verbs codec plan format tag s nid node role)
+  route_fits : (role : Role) → FitsWidget plan node role → IsNarrow role → All Fits (step_verbs kind codec plan format tag Route nid node role)
+  route_fits Unused fits narrow = All-nil Fits
+  route_fits (Passed index) fits narrow = passed_fits kind index fits narrow
+  route_fits (Source pair) fits narrow =
+      All-cons Fits (SetFormat (format_word format)) (SetStream (tag * 2 ^ 4 + 2 * pair) ∷ (enable_verbs kind ++ output_verbs codec node)) (short_fits (format_word format) 16 (word_small format))
+      (All-cons Fits (SetStream (tag * 2 ^ 4 + 2 * pair)) (enable_verbs kind ++ output_verbs codec node) (short_fits _ 8 (let z = fits.argument in omega arith))
+      (All-append Fits (enable_verbs kind) (output_verbs codec node) (enable_fits kind) output_fits))
+
+  step_fits : (s : Step) (role : Role) → FitsWidget plan node role → IsNarrow role → All Fits (step_verbs kind codec plan format tag s nid node role)
   step_fits Power role fits narrow = all_if Fits (is_used role && has_power_control node) (SetPower 0) (λ h. refl)
   step_fits Silence role fits narrow = all_if Fits (not (is_used role) && is_pin node) (SetPin 0) (λ h. refl)
   step_fits Release role fits narrow = all_if Fits (not (is_used role) && is_output_converter node) (SetStream 0) (λ h. refl)
   step_fits Route role fits narrow = route_fits role fits narrow
 
-narrow_role : (codec : RawCodec) (channels nid : ℕ) (role : Role) → IsWellFormed codec → IsUsedWell codec channels nid role → IsNarrow role
-narrow_role codec channels nid Unused well w = tt
-narrow_role codec channels nid (Passed index) well w = let short = (IsBounded-from_sound codec well.tables).short nid in let listed = w.listed in omega arith
-narrow_role codec channels nid (Source pair) well w = tt
+narrow_role : (kind : PinKind) (codec : RawCodec) (channels nid : ℕ) (role : Role) → IsWellFormed codec → IsUsedWell kind codec channels nid role → IsNarrow role
+narrow_role kind codec channels nid Unused well w = tt
+narrow_role kind codec channels nid (Passed index) well w = let short = (IsBounded-from_sound codec well.tables).short nid in let listed = w.listed in omega arith
+narrow_role kind codec channels nid (Source pair) well w = tt
 
 command_of : (codec : RawCodec) (nid : ℕ) (verb : Verb) → nid < 128 → Fits verb → IsCommandOf codec (command_to codec nid verb)
 command_of codec nid verb below fits = record {
@@ -129,8 +147,8 @@ command_of codec nid verb below fits = record {
 }
 
 -- each set-up verb goes to the codec, and can be encoded where that is one of 0 to 14
-pub all_commands_of : (codec : RawCodec) (plan : Plan) (format : Format) (tag : ℕ) → IsWellFormed codec → IsPlan codec format plan → tag ≤ 15 → All (IsCommandOf codec) (setup_verbs codec plan format tag)
-all_commands_of codec plan format tag well is few =
-    all_verbs (IsCommandOf codec) codec plan format tag (command_of codec codec.group (SetPower 0) (counted codec well).group_below refl)
-    (λ s nid node there k d within. command_of codec nid (get_or (step_verbs codec plan format tag s nid node (role_of plan nid)) k d) (node_below codec nid node well there)
-    (step_fits codec plan format tag nid node few s (role_of plan nid) ((fits_verbs codec format plan well is).at nid node there) (narrow_role codec format.channels nid (role_of plan nid) well (role_well codec format plan nid is)) k d within))
+pub all_commands_of : (kind : PinKind) (codec : RawCodec) (plan : Plan) (format : Format) (tag : ℕ) → IsWellFormed codec → IsPlanAs kind codec format plan → tag ≤ 15 → All (IsCommandOf codec) (setup_verbs_as kind codec plan format tag)
+all_commands_of kind codec plan format tag well is few =
+    all_verbs (IsCommandOf codec) kind codec plan format tag (command_of codec codec.group (SetPower 0) (counted codec well).group_below refl)
+    (λ s nid node there k d within. command_of codec nid (get_or (step_verbs kind codec plan format tag s nid node (role_of plan nid)) k d) (node_below codec nid node well there)
+    (step_fits kind codec plan format tag nid node few s (role_of plan nid) ((fits_verbs kind codec format plan well is).at nid node there) (narrow_role kind codec format.channels nid (role_of plan nid) well (role_well kind codec format plan nid is)) k d within))

@@ -21,11 +21,13 @@ use Rattle.verb_codes.specs.Amplifiers as amplifiers
 use Rattle.verb_codes.proofs.Callers.{setting_of-payload}
 use Rattle.stream_format.specs.declared.format.Format.{Format}
 use Rattle.stream_format.specs.Words.{format_word}
+use Rattle.route_planner.specs.declared.pin_kind.PinKind.{PinKind}
+use Rattle.route_planner.specs.declared.pin_kind.PinKind.TheVariants.{Analog, Digital}
 use Rattle.route_planner.specs.declared.routes.Plan.{Plan}
 use Rattle.setup_verbs.specs.declared.roles.Role.{Role}
 use Rattle.setup_verbs.specs.declared.roles.Role.TheVariants.{Unused, Passed, Source}
 use Rattle.setup_verbs.specs.Roles.{role_of}
-use Rattle.setup_verbs.specs.VerbList.{command_to, input_setting, output_setting, pin_control, event_tag}
+use Rattle.setup_verbs.specs.VerbList.{command_to, input_setting, output_setting, drives_headphone, event_tag}
 use Rattle.setup_verbs.proofs.Settling.{AllWanted, IsWanted, has_key, Sets}
 
 -- ---- the numbers
@@ -40,10 +42,23 @@ stream_wanted tag Unused = 0
 stream_wanted tag (Passed index) = 0
 stream_wanted tag (Source pair) = tag * 2 ^ 4 + 2 * pair
 
-abbrev pub pin_wanted : RawNode → Role → ℕ
-pin_wanted node Unused = bit_and 0 pin_bits
-pin_wanted node (Passed index) = bit_and (pin_control node) pin_bits
-pin_wanted node (Source pair) = 0
+-- the control of a routed pin: an analog one's with the headphone drive where it drives a headphone
+abbrev pub pin_control_by : PinKind → Bool → ℕ
+pin_control_by Analog drives = cond drives 0xC0 0x40
+pin_control_by Digital drives = 0x40
+
+abbrev pub pin_control_as : PinKind → RawNode → ℕ
+pin_control_as kind node = pin_control_by kind (drives_headphone node)
+
+abbrev pub pin_wanted : PinKind → RawNode → Role → ℕ
+pin_wanted kind node Unused = bit_and 0 pin_bits
+pin_wanted kind node (Passed index) = bit_and (pin_control_as kind node) pin_bits
+pin_wanted kind node (Source pair) = 0
+
+-- the digital output of a converter for digital pins is enabled
+abbrev pub digital_wanted : PinKind → ℕ
+digital_wanted Analog = 0
+digital_wanted Digital = 0x01
 
 -- of an input: it passes at the index, and else is muted
 abbrev pub input_wanted : RawCodec → RawNode → (index place : ℕ) → ℕ
@@ -55,35 +70,35 @@ input_wanted codec node index place =
 abbrev pub output_wanted : RawCodec → RawNode → ℕ
 output_wanted codec node = kept_amplifier (output_amplifier_word codec node) (output_setting (amplifier_offset (output_amplifier_word codec node)))
 
-abbrev pub widget_wanted : RawCodec → Plan → Format → (tag nid : ℕ) → RawNode → Role → Control → ℕ
-widget_wanted codec plan format tag nid node role control.Select = select_wanted role
-widget_wanted codec plan format tag nid node role control.Power = 0
-widget_wanted codec plan format tag nid node role control.Stream = stream_wanted tag role
-widget_wanted codec plan format tag nid node role control.Pin = pin_wanted node role
-widget_wanted codec plan format tag nid node role control.Unsol = bit_and (0x80 + event_tag plan nid) unsolicited_bits
-widget_wanted codec plan format tag nid node role control.Eapd = bit_and 0x02 eapd_bits
-widget_wanted codec plan format tag nid node role control.Digital = 0
-widget_wanted codec plan format tag nid node role control.Default = 0
-widget_wanted codec plan format tag nid node role control.Format = format_word format
-widget_wanted codec plan format tag nid node role control.OutLeft = output_wanted codec node
-widget_wanted codec plan format tag nid node role control.OutRight = output_wanted codec node
-widget_wanted codec plan format tag nid node role (control.InLeft place) = input_wanted codec node (select_wanted role) place
-widget_wanted codec plan format tag nid node role (control.InRight place) = input_wanted codec node (select_wanted role) place
+abbrev pub widget_wanted : PinKind → RawCodec → Plan → Format → (tag nid : ℕ) → RawNode → Role → Control → ℕ
+widget_wanted kind codec plan format tag nid node role control.Select = select_wanted role
+widget_wanted kind codec plan format tag nid node role control.Power = 0
+widget_wanted kind codec plan format tag nid node role control.Stream = stream_wanted tag role
+widget_wanted kind codec plan format tag nid node role control.Pin = pin_wanted kind node role
+widget_wanted kind codec plan format tag nid node role control.Unsol = bit_and (0x80 + event_tag plan nid) unsolicited_bits
+widget_wanted kind codec plan format tag nid node role control.Eapd = bit_and 0x02 eapd_bits
+widget_wanted kind codec plan format tag nid node role control.Digital = digital_wanted kind
+widget_wanted kind codec plan format tag nid node role control.Default = 0
+widget_wanted kind codec plan format tag nid node role control.Format = format_word format
+widget_wanted kind codec plan format tag nid node role control.OutLeft = output_wanted codec node
+widget_wanted kind codec plan format tag nid node role control.OutRight = output_wanted codec node
+widget_wanted kind codec plan format tag nid node role (control.InLeft place) = input_wanted codec node (select_wanted role) place
+widget_wanted kind codec plan format tag nid node role (control.InRight place) = input_wanted codec node (select_wanted role) place
 
-abbrev pub wanted_at : RawCodec → Plan → Format → (tag nid : ℕ) → Option RawNode → Role → Control → ℕ
-wanted_at codec plan format tag nid None role control = 0
-wanted_at codec plan format tag nid (Some node) role control = widget_wanted codec plan format tag nid node role control
+abbrev pub wanted_at : PinKind → RawCodec → Plan → Format → (tag nid : ℕ) → Option RawNode → Role → Control → ℕ
+wanted_at kind codec plan format tag nid None role control = 0
+wanted_at kind codec plan format tag nid (Some node) role control = widget_wanted kind codec plan format tag nid node role control
 
-unfoldable pub wanted : RawCodec → Plan → Format → ℕ → ControlKey → ℕ
-wanted codec plan format tag at = wanted_at codec plan format tag at.nid (node_at codec at.nid) (role_of plan at.nid) at.control
+unfoldable pub wanted : PinKind → RawCodec → Plan → Format → ℕ → ControlKey → ℕ
+wanted kind codec plan format tag at = wanted_at kind codec plan format tag at.nid (node_at codec at.nid) (role_of plan at.nid) at.control
 
 -- at a widget
-pub wanted-widget : (codec : RawCodec) (plan : Plan) (format : Format) (tag nid : ℕ) (node : RawNode) (role : Role) (c : Control) → node_at codec nid ≡ Some node → role_of plan nid ≡ role
-    → wanted codec plan format tag (key nid c) ≡ widget_wanted codec plan format tag nid node role c
+pub wanted-widget : (kind : PinKind) (codec : RawCodec) (plan : Plan) (format : Format) (tag nid : ℕ) (node : RawNode) (role : Role) (c : Control) → node_at codec nid ≡ Some node → role_of plan nid ≡ role
+    → wanted kind codec plan format tag (key nid c) ≡ widget_wanted kind codec plan format tag nid node role c
 unfolding wanted
-wanted-widget codec plan format tag nid node role c there is =
-    ap (λ (o : Option RawNode). wanted_at codec plan format tag nid o (role_of plan nid) c) there
-    ∙ ap (λ (r : Role). widget_wanted codec plan format tag nid node r c) is
+wanted-widget kind codec plan format tag nid node role c there is =
+    ap (λ (o : Option RawNode). wanted_at kind codec plan format tag nid o (role_of plan nid) c) there
+    ∙ ap (λ (r : Role). widget_wanted kind codec plan format tag nid node r c) is
 
 -- ---- one command
 
@@ -181,10 +196,10 @@ if_wanted W codec nid verb c value test writes is = record { writes = λ setting
     by false = All-nil (λ (w : ControlKey × ℕ). w.1 ≡ W w.0)
 
 -- every widget is wanted fully on
-pub wanted-power : (codec : RawCodec) (plan : Plan) (format : Format) (tag nid : ℕ) → wanted codec plan format tag (key nid control.Power) ≡ 0
+pub wanted-power : (kind : PinKind) (codec : RawCodec) (plan : Plan) (format : Format) (tag nid : ℕ) → wanted kind codec plan format tag (key nid control.Power) ≡ 0
 unfolding wanted
-wanted-power codec plan format tag nid = by (node_at codec nid)
+wanted-power kind codec plan format tag nid = by (node_at codec nid)
   where
-    by : (o : Option RawNode) → wanted_at codec plan format tag nid o (role_of plan nid) control.Power ≡ 0
+    by : (o : Option RawNode) → wanted_at kind codec plan format tag nid o (role_of plan nid) control.Power ≡ 0
     by None = refl
     by (Some node) = refl

@@ -10,7 +10,7 @@ use Rattle.stream_format.specs.declared.format.Bits.TheVariants.{B16}
 use Rattle.route_planner.specs.declared.routes.Plan.{Plan}
 use Rattle.route_planner.specs.declared.routes.Outcome.TheVariants as outcome
 use Rattle.setup_verbs.specs.Roles.{role_of}
-use Rattle.setup_verbs.specs.VerbList.{to_all, setup_verbs}
+use Rattle.setup_verbs.specs.VerbList.{to_all, setup_verbs, setup_verbs_as}
 
 abbrev vendors : ℕ → List RawNode
 vendors count = replicate count (plain_node 0x00F00000)
@@ -47,5 +47,5 @@ abbrev format : Format
 format = record { rate = R48; bits = B16; channels = 2; even = refl; some = omega arith; few = omega arith }
 
 pub words : map word_of (setup_verbs codec plan format 1) ≡ 0x00170500 ∷ 0x00220011 ∷ 0x00270610 ∷ 0x00C37000 ∷ 0x00C37180 ∷ 0x0143B000 ∷ 0x01470740 ∷ []
-unfolding role_of to_all setup_verbs
+unfolding role_of to_all setup_verbs_as
 words = refl

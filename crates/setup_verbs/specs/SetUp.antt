@@ -9,10 +9,12 @@ use Rattle.codec_graph.specs.Settings.{Entries, setting_of, IsSettingsOf}
 use Rattle.codec_graph.specs.VerbMeaning.{after}
 use Rattle.codec_sound.specs.declared.signals.Signal.TheVariants.{Silence, Pair}
 use Rattle.codec_sound.specs.Amplifiers.{is_muted}
-use Rattle.codec_sound.specs.Signals.{stream_of, signal_of}
+use Rattle.codec_sound.specs.Signals.{stream_of, signal_as, signal_of, digital_signal_of}
 use Rattle.verb_codes.specs.declared.verbs.Command.{Command}
 use Rattle.verb_codes.specs.Verbs.{IsInRange}
 use Rattle.stream_format.specs.declared.format.Format.{Format}
+use Rattle.route_planner.specs.declared.pin_kind.PinKind.{PinKind}
+use Rattle.route_planner.specs.declared.pin_kind.PinKind.TheVariants.{Digital}
 use Rattle.route_planner.specs.declared.routes.Hop.{Hop}
 use Rattle.route_planner.specs.declared.routes.Route as declared_route
 use Rattle.route_planner.specs.declared.routes.Outcome.{Outcome}
@@ -67,6 +69,34 @@ pub record IsSetUp (codec : RawCodec) (settings : Entries) (plan : Plan) (format
   pub others : (pin : ℕ) → passes is_pin (node_at codec pin) ≡ true → HasNoRoute plan pin
       → signal_of codec settings (stream_of tag format) pin ≡ Silence
 
+-- ---- of each kind
+
+-- the pin of a route hears its pair of channels as a pin of the kind
+abbrev pub IsRouteHeard : PinKind → RawCodec → Entries → Format → (tag pin pair : ℕ) → Outcome → Type 0
+IsRouteHeard kind codec settings format tag pin pair (outcome.Route route) =
+    signal_as kind codec settings (stream_of tag format) pin ≡ Pair pair
+IsRouteHeard kind codec settings format tag pin pair outcome.Blocked = Unit {0}
+IsRouteHeard kind codec settings format tag pin pair outcome.NoPath = Unit {0}
+
+-- every route's pin hears its pair as a pin of the kind, and every other pin widget is silent, of whichever kind it is
+-- heard as
+pub record AreRoutesHeard (kind : PinKind) (codec : RawCodec) (settings : Entries) (plan : Plan) (format : Format) (tag : ℕ)
+    : Type 0 where
+  pub routes : All (λ (entry : PinPlan). IsRouteHeard kind codec settings format tag entry.pin entry.pair entry.outcome)
+      plan.pins
+  pub others : (other : PinKind) (pin : ℕ) → passes is_pin (node_at codec pin) ≡ true → HasNoRoute plan pin
+      → signal_as other codec settings (stream_of tag format) pin ≡ Silence
+
+-- every route's pin hears the first pair as a digital pin, and every other pin widget is silent, heard as an analog pin
+-- and as a digital one
+pub record IsDigitallySetUp (codec : RawCodec) (settings : Entries) (plan : Plan) (format : Format) (tag : ℕ) : Type 0
+  where
+    pub routes : All (λ (entry : PinPlan). IsRouteHeard Digital codec settings format tag entry.pin 0 entry.outcome)
+        plan.pins
+    pub others : (pin : ℕ) → passes is_pin (node_at codec pin) ≡ true → HasNoRoute plan pin
+        → (signal_of codec settings (stream_of tag format) pin ≡ Silence)
+        × (digital_signal_of codec settings (stream_of tag format) pin ≡ Silence)
+
 -- the settings after some commands
 abbrev pub settings_after : RawCodec → Entries → List Command → Entries
 settings_after codec settings commands = fold (after codec) settings commands
@@ -76,6 +106,12 @@ abbrev pub LeadToSetUp : RawCodec → Plan → Format → ℕ → List Command �
 LeadToSetUp codec plan format tag commands =
     (settings : Entries) → IsSettingsOf codec settings → IsSetUp codec (settings_after codec settings commands) plan
     format tag
+
+-- and to one in which the routes of the kind are heard
+abbrev pub LeadToHearing : PinKind → RawCodec → Plan → Format → ℕ → List Command → Type 0
+LeadToHearing kind codec plan format tag commands =
+    (settings : Entries) → IsSettingsOf codec settings
+    → AreRoutesHeard kind codec (settings_after codec settings commands) plan format tag
 
 -- the command goes to the codec, and where that is one of 0 to 14 it can be encoded
 pub record IsCommandOf (codec : RawCodec) (command : Command) : Type 0 where

@@ -7,6 +7,7 @@ use Rattle.codec_graph.specs.Widget.{node_at, is_mixer, is_selector, has_input_a
 use Rattle.verb_codes.specs.declared.verbs.Command.{Command}
 use Rattle.verb_codes.specs.declared.verbs.Verb.{Verb}
 use Rattle.stream_format.specs.declared.format.Format.{Format}
+use Rattle.route_planner.specs.declared.pin_kind.PinKind.{PinKind}
 use Rattle.route_planner.specs.declared.routes.Plan.{Plan}
 use Rattle.setup_verbs.specs.declared.roles.Role.{Role}
 use Rattle.setup_verbs.specs.declared.roles.Role.TheVariants.{Unused, Passed, Source}
@@ -24,18 +25,18 @@ abbrev pub AreRoles : Plan → List Role → Type 0
 AreRoles plan roles = (nid : ℕ) → nid < 256 → role_in roles nid ≡ role_of plan nid
 
 -- the verbs of a step at a node
-abbrev pub step_verbs : RawCodec → Plan → Format → ℕ → Step → ℕ → RawNode → Role → List Verb
-step_verbs codec plan format tag Power nid node role = power_verbs node role
-step_verbs codec plan format tag Silence nid node role = silence_verbs node role
-step_verbs codec plan format tag Release nid node role = release_verbs node role
-step_verbs codec plan format tag Route nid node role = route_verbs codec plan format tag nid node role
+abbrev pub step_verbs : PinKind → RawCodec → Plan → Format → ℕ → Step → ℕ → RawNode → Role → List Verb
+step_verbs kind codec plan format tag Power nid node role = power_verbs node role
+step_verbs kind codec plan format tag Silence nid node role = silence_verbs node role
+step_verbs kind codec plan format tag Release nid node role = release_verbs node role
+step_verbs kind codec plan format tag Route nid node role = route_verbs kind codec plan format tag nid node role
 
 -- the commands of a step at one node, and at all
-abbrev pub commands_at : RawCodec → Plan → Format → ℕ → Step → ℕ → List Command
-commands_at codec plan format tag part nid = step_at codec plan (step_verbs codec plan format tag part) nid
+abbrev pub commands_at : PinKind → RawCodec → Plan → Format → ℕ → Step → ℕ → List Command
+commands_at kind codec plan format tag part nid = step_at codec plan (step_verbs kind codec plan format tag part) nid
 
-abbrev pub commands_of : RawCodec → Plan → Format → ℕ → Step → List Command
-commands_of codec plan format tag part = step codec plan (step_verbs codec plan format tag part)
+abbrev pub commands_of : PinKind → RawCodec → Plan → Format → ℕ → Step → List Command
+commands_of kind codec plan format tag part = step codec plan (step_verbs kind codec plan format tag part)
 
 -- arguments fit their verbs: pairs are below 8, inputs with an amplifier at most 16
 abbrev pub FitsRole : RawNode → Role → Type 0

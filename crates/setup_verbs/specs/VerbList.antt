@@ -1,6 +1,6 @@
--- The verbs that set a codec up for the plan of its graph, in four steps: power, pins without a route, converters on no
--- route, and the nodes of the routes. Within a step nodes ascend. Verbs: High Definition Audio 1.0a, 7.3.3. The list is
--- this project's own.
+-- The verbs that set a codec up for the plan of its graph for a kind of pins, in four steps: power, pins without a
+-- route, converters on no route, and the nodes of the routes. The first three are the same for each kind. Within a step
+-- nodes ascend. Verbs: High Definition Audio 1.0a, 7.3.3. The list is this project's own.
 use Rattle.std.specs.Prelude.{ℕ, zero, suc, Bool, true, false, ◌==◌, ◌&&◌, ◌||◌, not, ◌+◌, ◌*◌, ◌^◌, List, [], ◌∷◌}
 use Rattle.std.specs.Prelude.{◌++◌, map, length, nat_le, if◌then◌else◌, Option, Some, None}
 use Rattle.std.specs.List.{range_with_len}
@@ -13,12 +13,14 @@ use Rattle.codec_graph.specs.Settings.{sends_unsolicited, detects_presence, has_
 use Rattle.verb_codes.specs.declared.verbs.Command.{Command}
 use Rattle.verb_codes.specs.declared.verbs.Verb.{Verb}
 use Rattle.verb_codes.specs.declared.verbs.Verb.TheVariants.{SetSelect, SetPower, SetStream, SetPin, SetUnsol, SetEapd}
-use Rattle.verb_codes.specs.declared.verbs.Verb.TheVariants.{SetFormat, SetAmp}
+use Rattle.verb_codes.specs.declared.verbs.Verb.TheVariants.{SetFormat, SetDigital, SetAmp}
 use Rattle.verb_codes.specs.declared.amplifiers.AmpSetting.{AmpSetting}
 use Rattle.verb_codes.specs.Amplifiers.{setting_payload}
 use Rattle.verb_codes.specs.Words.{has_bit}
 use Rattle.stream_format.specs.declared.format.Format.{Format}
 use Rattle.stream_format.specs.Words.{format_word}
+use Rattle.route_planner.specs.declared.pin_kind.PinKind.{PinKind}
+use Rattle.route_planner.specs.declared.pin_kind.PinKind.TheVariants.{Analog, Digital}
 use Rattle.route_planner.specs.declared.routes.Plan.{Plan}
 use Rattle.route_planner.specs.Order.{is_headphone_node}
 use Rattle.setup_verbs.specs.declared.roles.Role.{Role}
@@ -47,6 +49,14 @@ release_verbs node role = only_if (not (is_used role) && is_output_converter nod
 -- the converter of a route takes the stream in its format (7.3.3.8), from the first channel of the pair on (7.3.3.11)
 abbrev pub source_verbs : Format → (tag pair : ℕ) → List Verb
 source_verbs format tag pair = SetFormat (format_word format) ∷ SetStream (tag * 2 ^ 4 + 2 * pair) ∷ []
+
+-- the output of a digital one is enabled: DigEn alone (7.3.3.9)
+abbrev pub enable_verbs : PinKind → List Verb
+enable_verbs Analog = []
+enable_verbs Digital = SetDigital 0x01 ∷ []
+
+abbrev pub source_verbs_as : PinKind → Format → (tag pair : ℕ) → List Verb
+source_verbs_as kind format tag pair = source_verbs format tag pair ++ enable_verbs kind
 
 -- both sides of an amplifier (7.3.3.7): of the input at a place, and of the output
 abbrev pub input_setting : ℕ → Bool → ℕ → AmpSetting
@@ -129,10 +139,21 @@ passed_verbs codec plan nid node index =
     ++ (output_verbs codec node
     ++ pin_verbs plan nid node)))
 
-abbrev pub route_verbs : RawCodec → Plan → Format → ℕ → ℕ → RawNode → Role → List Verb
-route_verbs codec plan format tag nid node Unused = []
-route_verbs codec plan format tag nid node (Passed index) = passed_verbs codec plan nid node index
-route_verbs codec plan format tag nid node (Source pair) = source_verbs format tag pair ++ output_verbs codec node
+-- a digital pin's external amplifier is on, and its output is enabled; it tells of no change
+abbrev pub digital_pin_verbs : RawNode → List Verb
+digital_pin_verbs node = only_if (has_eapd node) (SetEapd 0x02) ++ only_if (is_pin node) (SetPin 0x40)
+
+-- a digital route passes no mixer and no input amplifier
+abbrev pub passed_verbs_as : PinKind → RawCodec → Plan → ℕ → RawNode → ℕ → List Verb
+passed_verbs_as Analog codec plan nid node index = passed_verbs codec plan nid node index
+passed_verbs_as Digital codec plan nid node index =
+    select_verbs node index ++ (output_verbs codec node ++ digital_pin_verbs node)
+
+abbrev pub route_verbs : PinKind → RawCodec → Plan → Format → ℕ → ℕ → RawNode → Role → List Verb
+route_verbs kind codec plan format tag nid node Unused = []
+route_verbs kind codec plan format tag nid node (Passed index) = passed_verbs_as kind codec plan nid node index
+route_verbs kind codec plan format tag nid node (Source pair) =
+    source_verbs_as kind format tag pair ++ output_verbs codec node
 
 -- ---- all steps
 
@@ -163,11 +184,15 @@ step_at codec plan verbs nid = commands_to codec nid (at_widget (verbs nid) (nod
 abbrev pub step : RawCodec → Plan → (ℕ → RawNode → Role → List Verb) → List Command
 step codec plan verbs = to_all (step_at codec plan verbs)
 
--- all set-up verbs
-unfoldable pub setup_verbs : RawCodec → Plan → Format → ℕ → List Command
-setup_verbs codec plan format tag =
+-- all set-up verbs for a kind of pins
+unfoldable pub setup_verbs_as : PinKind → RawCodec → Plan → Format → ℕ → List Command
+setup_verbs_as kind codec plan format tag =
     command_to codec codec.group (SetPower 0)
     ∷ (step codec plan (λ _. power_verbs)
     ++ (step codec plan (λ _. silence_verbs)
     ++ (step codec plan (λ _. release_verbs)
-    ++ step codec plan (route_verbs codec plan format tag))))
+    ++ step codec plan (route_verbs kind codec plan format tag))))
+
+-- for analog pins
+abbrev pub setup_verbs : RawCodec → Plan → Format → ℕ → List Command
+setup_verbs = setup_verbs_as Analog

@@ -1,4 +1,5 @@
-//! The verbs that set a codec up for the plan of its graph: they open every planned route and silence every other pin.
+//! The verbs that set a codec up for the plan of its graph, for analog pins or for digital ones: they open every
+//! planned route and silence every other pin.
 #![tactic(auto)]
 
 mod laws;
@@ -8,5 +9,5 @@ mod sending;
 mod setup;
 mod steps;
 
-pub use laws::setup_verbs_set_up;
-pub use setup::verbs;
+pub use laws::{digital_verbs_set_up, setup_verbs_set_up};
+pub use setup::{verbs, verbs_as};

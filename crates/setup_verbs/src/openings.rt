@@ -3,13 +3,14 @@ ghost use Rattle.std.specs.Prelude.{◌≡◌, ◌≤◌, ◌<◌, ◌+◌, ◌*
 ghost use Rattle.std.specs.List.{range_with_len};
 ghost use Rattle.codec_graph.specs.Widget as widget;
 ghost use Rattle.setup_verbs.specs.Roles.{place_among};
+ghost use Rattle.route_planner.specs.declared.pin_kind.PinKind.TheVariants as pin_kind;
 ghost use Rattle.setup_verbs.specs.VerbList as spec;
 
 use crate::roles::Role;
 use crate::sending::{mute_input, pass_input, pass_output, send_if};
 use bitflags::Flags;
 use codec_graph::{RawCodec, RawNode};
-use route_planner::{PinPlan, Plan, is_headphone};
+use route_planner::{PinKind, PinPlan, Plan, is_headphone};
 use std::alloc::AllocError;
 use stream_format::Format;
 use verb_codes::{Command, PinCapabilities, PinControl, Verb};
@@ -20,12 +21,17 @@ const EVENTS_ENABLED: u8 = 0x80;
 /// The control of an external amplifier that is on (HDA 1.0a, 7.3.3.16).
 const EAPD_ON: u8 = 0x02;
 
-/// The converter of a route takes the stream, from the first channel of the pair on.
+/// The control of a digital converter whose output is enabled and that sets nothing else (HDA 1.0a, 7.3.3.9).
+const DIGITAL_ON: u8 = 0x01;
+
+/// The converter of a route takes the stream, from the first channel of the pair on. The output of a digital one is
+/// enabled.
 ///
 /// # Errors
 /// Want of memory.
 pub(crate) fn open_source(
     commands: &mut Vec<Command>,
+    kind: PinKind,
     codec: &RawCodec,
     format: Format,
     tag: u8,
@@ -37,7 +43,7 @@ pub(crate) fn open_source(
     requires pair { pair < 8 }
     ensures { OnOk result (commands.new.items
         ≡ commands.old.items ++ spec.commands_to codec.now nid
-        (spec.source_verbs format tag pair ++ spec.output_verbs codec.now node.now)) }
+        (spec.source_verbs_as kind format tag pair ++ spec.output_verbs codec.now node.now)) }
 {
     send_if(commands, codec, nid, true, Verb::SetFormat(format.word()))?;
     send_if(
@@ -47,14 +53,88 @@ pub(crate) fn open_source(
         true,
         Verb::SetStream(tag * 16 + 2 * pair),
     )?;
+    enable_output(commands, kind, codec, nid)?;
     open_output(commands, codec, nid, node)
 }
 
-/// A pin, mixer or selector that a route leaves by the connection at this index.
+/// The digital output of a converter for digital pins is enabled.
+fn enable_output(
+    commands: &mut Vec<Command>,
+    kind: PinKind,
+    codec: &RawCodec,
+    nid: u8,
+) -> Result<(), AllocError>
+    ensures { OnOk result (commands.new.items
+        ≡ commands.old.items ++ spec.commands_to codec.now nid (spec.enable_verbs kind)) }
+{
+    match kind {
+        PinKind::Analog => Ok(()),
+        PinKind::Digital => send_if(commands, codec, nid, true, Verb::SetDigital(DIGITAL_ON)),
+    }
+}
+
+/// A node that a route of the kind leaves by the connection at this index.
 ///
 /// # Errors
 /// Want of memory.
-pub(crate) fn open_passed(
+pub(crate) fn open_passed_as(
+    commands: &mut Vec<Command>,
+    kind: PinKind,
+    codec: &RawCodec,
+    plan: &Plan,
+    nid: u8,
+    node: &RawNode,
+    index: u8,
+) -> Result<(), AllocError>
+    requires pins { length plan.now.pins ≤ 126 }
+    requires inputs { widget.is_mixer node.now ≡ true → length node.now.list ≤ 16 }
+    requires selected { (widget.is_selector node.now && widget.has_input_amplifier node.now) ≡ true → index < 16 }
+    ensures { OnOk result (commands.new.items
+        ≡ commands.old.items ++ spec.commands_to codec.now nid
+        (spec.passed_verbs_as kind codec.now plan.now nid node.now index)) }
+{
+    match kind {
+        PinKind::Analog => open_passed(commands, codec, plan, nid, node, index),
+        PinKind::Digital => open_digital(commands, codec, plan, nid, node, index),
+    }
+}
+
+/// A digital pin or selector that a route leaves by the connection at this index.
+fn open_digital(
+    commands: &mut Vec<Command>,
+    codec: &RawCodec,
+    plan: &Plan,
+    nid: u8,
+    node: &RawNode,
+    index: u8,
+) -> Result<(), AllocError>
+    ensures { OnOk result (commands.new.items
+        ≡ commands.old.items ++ spec.commands_to codec.now nid
+        (spec.passed_verbs_as pin_kind.Digital codec.now plan.now nid node.now index)) }
+{
+    open_choice(commands, codec, nid, node, index)?;
+    open_output(commands, codec, nid, node)?;
+    open_digital_pin(commands, codec, nid, node)
+}
+
+/// A digital pin's external amplifier is on, and its output is enabled.
+fn open_digital_pin(
+    commands: &mut Vec<Command>,
+    codec: &RawCodec,
+    nid: u8,
+    node: &RawNode,
+) -> Result<(), AllocError>
+    ensures { OnOk result (commands.new.items
+        ≡ commands.old.items ++ spec.commands_to codec.now nid (spec.digital_pin_verbs node.now)) }
+{
+    let amplifies = node.has_eapd();
+    send_if(commands, codec, nid, amplifies, Verb::SetEapd(EAPD_ON))?;
+    let control = PinControl::OUTPUT.0;
+    send_if(commands, codec, nid, node.is_pin(), Verb::SetPin(control))
+}
+
+/// A pin, mixer or selector that an analog route leaves by the connection at this index.
+fn open_passed(
     commands: &mut Vec<Command>,
     codec: &RawCodec,
     plan: &Plan,
@@ -70,8 +150,7 @@ pub(crate) fn open_passed(
         (spec.passed_verbs codec.now plan.now nid node.now index)) }
 {
     open_mixer(commands, codec, nid, node, index)?;
-    let selects = has_choice(node);
-    send_if(commands, codec, nid, selects, Verb::SetSelect(index))?;
+    open_choice(commands, codec, nid, node, index)?;
     open_selector(commands, codec, nid, node, index)?;
     open_output(commands, codec, nid, node)?;
     open_pin(commands, codec, plan, nid, node)
@@ -82,6 +161,21 @@ fn has_choice(node: &RawNode) -> bool
     ensures { result ≡ spec.has_choice node.now }
 {
     (node.is_selector() || node.is_pin()) && node.list.len() >= 2
+}
+
+/// A selector or pin that has a choice selects the connection at the index.
+fn open_choice(
+    commands: &mut Vec<Command>,
+    codec: &RawCodec,
+    nid: u8,
+    node: &RawNode,
+    index: u8,
+) -> Result<(), AllocError>
+    ensures { OnOk result (commands.new.items
+        ≡ commands.old.items ++ spec.commands_to codec.now nid (spec.select_verbs node.now index)) }
+{
+    let selects = has_choice(node);
+    send_if(commands, codec, nid, selects, Verb::SetSelect(index))
 }
 
 /// Of a mixer's inputs the one at the index passes, and all others are muted.

@@ -1,15 +1,15 @@
-//! The steps of set-up, each over all nodes.
+//! The steps of set-up for a kind of pins, each over all nodes.
 ghost use Rattle.std.specs.Prelude.{◌≡◌, ◌≤◌, ◌<◌, ◌&&◌, ◌++◌, ℕ, true, length, OnOk, Some};
 ghost use Rattle.codec_graph.specs.Widget as widget;
 ghost use Rattle.codec_graph.specs.declared.raw.RawNode.{RawNode};
 ghost use Rattle.setup_verbs.specs.Steps as spec;
 ghost use Rattle.setup_verbs.specs.VerbList as list;
 
-use crate::openings::{open_passed, open_source};
+use crate::openings::{open_passed_as, open_source};
 use crate::roles::Role;
 use crate::sending::send_if;
 use codec_graph::{NODE_IDENTIFIERS, RawCodec, RawNode};
-use route_planner::Plan;
+use route_planner::{PinKind, Plan};
 use std::alloc::AllocError;
 use stream_format::Format;
 use verb_codes::{Command, Verb};
@@ -33,6 +33,7 @@ pub(crate) enum Step {
 /// Want of memory.
 pub(crate) fn send_step(
     commands: &mut Vec<Command>,
+    kind: PinKind,
     codec: &RawCodec,
     plan: &Plan,
     roles: &[Role; 256],
@@ -43,11 +44,12 @@ pub(crate) fn send_step(
     requires roles { spec.AreRoles plan.now roles.now }
     requires tag { tag ≤ 15 }
     requires fits { spec.FitsVerbs codec.now plan.now }
-    ensures { OnOk result (commands.new.items ≡ commands.old.items ++ spec.commands_of codec.now plan.now format tag
+    ensures { OnOk result (commands.new.items ≡ commands.old.items ++ spec.commands_of kind codec.now plan.now format
+        tag
         step) }
 {
     for nid in 0..NODE_IDENTIFIERS as u8 {
-        send_at(commands, codec, plan, roles, format, tag, step, nid)?;
+        send_at(commands, kind, codec, plan, roles, format, tag, step, nid)?;
     }
     Ok(())
 }
@@ -55,6 +57,7 @@ pub(crate) fn send_step(
 /// The commands of a step to one node.
 fn send_at(
     commands: &mut Vec<Command>,
+    kind: PinKind,
     codec: &RawCodec,
     plan: &Plan,
     roles: &[Role; 256],
@@ -66,12 +69,15 @@ fn send_at(
     requires roles { spec.AreRoles plan.now roles.now }
     requires tag { tag ≤ 15 }
     requires fits { spec.FitsVerbs codec.now plan.now }
-    ensures { OnOk result (commands.new.items ≡ commands.old.items ++ spec.commands_at codec.now plan.now format tag
+    ensures { OnOk result (commands.new.items ≡ commands.old.items ++ spec.commands_at kind codec.now plan.now format
+        tag
         step nid) }
 {
     let role = roles[usize::from(nid)];
     match codec.node(nid) {
-        Some(node) => send_to_widget(commands, codec, plan, format, tag, step, nid, node, role),
+        Some(node) => send_to_widget(
+            commands, kind, codec, plan, format, tag, step, nid, node, role,
+        ),
         None => Ok(()),
     }
 }
@@ -79,6 +85,7 @@ fn send_at(
 /// The commands of a step to one widget, by what the routes make of it.
 fn send_to_widget(
     commands: &mut Vec<Command>,
+    kind: PinKind,
     codec: &RawCodec,
     plan: &Plan,
     format: Format,
@@ -92,7 +99,7 @@ fn send_to_widget(
     requires fits { spec.FitsWidget plan.now node.now role }
     ensures { OnOk result (commands.new.items
         ≡ commands.old.items ++ list.commands_to codec.now nid
-        (spec.step_verbs codec.now plan.now format tag step nid node.now role)) }
+        (spec.step_verbs kind codec.now plan.now format tag step nid node.now role)) }
 {
     match step {
         Step::Power => {
@@ -107,13 +114,14 @@ fn send_to_widget(
             let applies = !role.is_used() && node.is_output_converter();
             send_if(commands, codec, nid, applies, Verb::SetStream(0))
         }
-        Step::Route => send_route(commands, codec, plan, format, tag, nid, node, role),
+        Step::Route => send_route(commands, kind, codec, plan, format, tag, nid, node, role),
     }
 }
 
 /// The verbs of a node by what the routes make of it.
 fn send_route(
     commands: &mut Vec<Command>,
+    kind: PinKind,
     codec: &RawCodec,
     plan: &Plan,
     format: Format,
@@ -126,11 +134,11 @@ fn send_route(
     requires fits { spec.FitsWidget plan.now node.now role }
     ensures { OnOk result (commands.new.items
         ≡ commands.old.items ++ list.commands_to codec.now nid
-        (list.route_verbs codec.now plan.now format tag nid node.now role)) }
+        (list.route_verbs kind codec.now plan.now format tag nid node.now role)) }
 {
     match role {
         Role::Unused => Ok(()),
-        Role::Passed(index) => open_passed(commands, codec, plan, nid, node, index),
-        Role::Source(pair) => open_source(commands, codec, format, tag, nid, node, pair),
+        Role::Passed(index) => open_passed_as(commands, kind, codec, plan, nid, node, index),
+        Role::Source(pair) => open_source(commands, kind, codec, format, tag, nid, node, pair),
     }
 }

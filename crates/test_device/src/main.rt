@@ -2,6 +2,7 @@
 //! first word says what is called.
 #![tactic(auto)]
 
+mod digital_pins;
 mod drivers;
 mod engine;
 mod formats;
@@ -20,12 +21,13 @@ use std::process::ExitCode;
 use test_cases::{Cases, run_cases, text_of};
 
 /// The files of cases.
-const FILES: [&str; 8] = [
+const FILES: [&str; 9] = [
     "codecs.txt",
     "formats.txt",
     "walks.txt",
     "setups.txt",
     "signals.txt",
+    "digital.txt",
     "polls.txt",
     "streams.txt",
     "lies.txt",
@@ -53,6 +55,9 @@ impl Cases for Calls {
             "setter" => setups::tell_setter(alloc, rest),
             "hear" => signals::tell(alloc, rest),
             "kept" => signals::tell_kept(alloc, rest),
+            "digital_plan" => digital_pins::tell_plan(alloc, rest),
+            "digital_setup" => digital_pins::tell_setup(alloc, rest),
+            "hear_digital" => digital_pins::tell_heard(alloc, rest),
             "loud" => signals::tell_loud(alloc, rest),
             "greatest" => signals::tell_greatest(alloc, rest),
             "controls" => signals::tell_controls(alloc, rest),

@@ -3,7 +3,7 @@ ghost use Rattle.std.specs.Prelude.{◌≤◌};
 
 use codec_graph::Graph;
 use codec_nodes::Codec;
-use codec_sound::{Kept, signal};
+use codec_sound::{Kept, Signal, digital_signal, signal};
 use route_planner::{Bits, Format, Rate, plan};
 use route_setup::verbs;
 use std::alloc::{AllocError, Global};
@@ -90,6 +90,25 @@ fn after(alloc: Global, file: &[u8], words: &[Vec<u8>]) -> Result<Option<Codec>,
         give(&mut codec, number_of(word));
     }
     Ok(Some(codec))
+}
+
+/// What a pin hears of the stream with the tag 1 and two channels after the codec of the file took some words, as a
+/// digital pin and as an analog one.
+pub fn heard_after(
+    alloc: Global,
+    file: &[u8],
+    pin: &[u8],
+    words: &[Vec<u8>],
+) -> Result<Option<(Signal, Signal)>, AllocError> {
+    let Some(codec) = after(alloc, file, words)? else {
+        return Ok(None);
+    };
+    let (graph, settings) = (codec.graph(), codec.settings());
+    let (pin, format) = (pin_of(pin), format_of(b"2"));
+    Ok(Some((
+        digital_signal(graph, settings, pin, TAG, format),
+        signal(graph, settings, pin, TAG, format),
+    )))
 }
 
 /// What a pin hears of the stream with the tag 1 and two channels after the codec of the file took some words.

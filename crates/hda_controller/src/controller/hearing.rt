@@ -8,7 +8,7 @@ ghost use Rattle.stream_format.specs.Layouts.{Layout, layout_of};
 ghost use Rattle.codec_sound.specs.declared.heard.Heard.TheVariants.{Hole};
 ghost use Rattle.heard_lists.specs.Listings.{HasRoom, with_blocks, with_items};
 ghost use Rattle.hda_controller.specs.Controllers.{StandsFor, signal_now};
-ghost use Rattle.hda_controller.specs.Hearing.{AreDue, AreHeard, Grew};
+ghost use Rattle.hda_controller.specs.Hearing.{AreDue, AreHeardAs, GrewAs};
 ghost use Rattle.hda_controller.specs.Unheard.{AreWhole, block_count, heard_now, layout_now};
 
 use super::Controller;
@@ -26,13 +26,14 @@ impl Controller {
     /// Lets so many link frames pass.
     pub(super) fn link(&mut self, frames: u32, heard: &mut HeardLists)
         requires room { HasRoom (4 * frames) heard.old }
-        requires lists { AreHeard self.old.device.codecs heard.old }
+        requires lists { AreHeardAs self.old.kind self.old.device.codecs heard.old }
         ensures stands { (memory : List ℕ) (world : World) → StandsFor memory self.old world
             → StandsFor memory self.new (steps.times frames steps.frame_step world) }
         ensures heard { (memory : List ℕ) (world : World) → StandsFor memory self.old world
-            → Grew world (steps.times frames steps.frame_step world) heard.old heard.new }
+            → GrewAs self.old.kind world (steps.times frames steps.frame_step world) heard.old heard.new }
         ensures room { (more : ℕ) → HasRoom (4 * frames + more) heard.old → HasRoom more heard.new }
         ensures kept { self.new.kept ≡ self.old.kept }
+        ensures kind { self.new.kind ≡ self.old.kind }
     {
         if frames == 1 {
             self.link_alone(heard);
@@ -44,13 +45,14 @@ impl Controller {
     /// Lets a link frame pass, which is heard at once.
     fn link_alone(&mut self, heard: &mut HeardLists)
         requires room { HasRoom 4 heard.old }
-        requires lists { AreHeard self.old.device.codecs heard.old }
+        requires lists { AreHeardAs self.old.kind self.old.device.codecs heard.old }
         ensures stands { (memory : List ℕ) (world : World) → StandsFor memory self.old world
             → StandsFor memory self.new (steps.frame_step world) }
         ensures heard { (memory : List ℕ) (world : World) → StandsFor memory self.old world
-            → Grew world (steps.frame_step world) heard.old heard.new }
+            → GrewAs self.old.kind world (steps.frame_step world) heard.old heard.new }
         ensures room { (more : ℕ) → HasRoom (4 + more) heard.old → HasRoom more heard.new }
         ensures kept { self.new.kept ≡ self.old.kept }
+        ensures kind { self.new.kind ≡ self.old.kind }
     {
         // The controller stands for some world, by which a frame has at most four blocks.
         self.device.is_some_world();
@@ -67,9 +69,9 @@ impl Controller {
     fn hear_frame(&self, blocks: u32, bytes: &[u8; MOST_FRAME_BYTES], heard: &mut HeardLists)
         requires due { AreDue self.now.device.registers.output.format blocks }
         requires room { HasRoom 4 heard.old }
-        requires lists { AreHeard self.now.device.codecs heard.old }
+        requires lists { AreHeardAs self.now.kind self.now.device.codecs heard.old }
         ensures heard { (layout : Layout) → layout_of self.now.device.registers.output.format ≡ Some layout
-            → heard.new ≡ map (with_blocks (signal_now self.now.device) layout
+            → heard.new ≡ map (with_blocks (signal_now self.now.kind self.now.device) layout
             (take (blocks * bytes_of_block layout.channels layout.bits) bytes.now)) heard.old }
         ensures room { (more : ℕ) → HasRoom (4 + more) heard.old → HasRoom more heard.new }
     {
@@ -83,13 +85,14 @@ impl Controller {
     /// Lets so many link frames pass, whose blocks are heard together.
     fn link_together(&mut self, frames: u32, heard: &mut HeardLists)
         requires room { HasRoom (4 * frames) heard.old }
-        requires lists { AreHeard self.old.device.codecs heard.old }
+        requires lists { AreHeardAs self.old.kind self.old.device.codecs heard.old }
         ensures stands { (memory : List ℕ) (world : World) → StandsFor memory self.old world
             → StandsFor memory self.new (steps.times frames steps.frame_step world) }
         ensures heard { (memory : List ℕ) (world : World) → StandsFor memory self.old world
-            → Grew world (steps.times frames steps.frame_step world) heard.old heard.new }
+            → GrewAs self.old.kind world (steps.times frames steps.frame_step world) heard.old heard.new }
         ensures room { (more : ℕ) → HasRoom (4 * frames + more) heard.old → HasRoom more heard.new }
         ensures kept { self.new.kept ≡ self.old.kept }
+        ensures kind { self.new.kind ≡ self.old.kind }
     {
         let mut bytes = [0; MOST_FRAME_BYTES];
         let mut unheard = Unheard::new();
@@ -109,18 +112,20 @@ impl Controller {
     )
         requires whole { AreWhole (layout_now self.old.device) unheard.old.items }
         requires room { HasRoom (block_count (layout_now self.old.device) unheard.old.items + 4) heard.old }
-        requires lists { AreHeard self.old.device.codecs heard.old }
+        requires lists { AreHeardAs self.old.kind self.old.device.codecs heard.old }
         ensures stands { (memory : List ℕ) (world : World) → StandsFor memory self.old world
             → StandsFor memory self.new (steps.frame_step world) }
         ensures heard { (memory : List ℕ) (world : World) → StandsFor memory self.old world
-            → Grew world (steps.frame_step world) (heard_now self.old.device unheard.old.items heard.old)
-            (heard_now self.new.device unheard.new.items heard.new) }
+            → GrewAs self.old.kind world (steps.frame_step world)
+            (heard_now self.old.kind self.old.device unheard.old.items heard.old)
+            (heard_now self.new.kind self.new.device unheard.new.items heard.new) }
         ensures whole { AreWhole (layout_now self.new.device) unheard.new.items }
         ensures room { (more : ℕ)
             → HasRoom (block_count (layout_now self.old.device) unheard.old.items + (4 + more)) heard.old
             → HasRoom (block_count (layout_now self.new.device) unheard.new.items + more) heard.new }
-        ensures lists { AreHeard self.new.device.codecs heard.new }
+        ensures lists { AreHeardAs self.new.kind self.new.device.codecs heard.new }
         ensures kept { self.new.kept ≡ self.old.kept }
+        ensures kind { self.new.kind ≡ self.old.kind }
     {
         // The controller stands for some world, by which a frame has at most four blocks.
         self.device.is_some_world();
@@ -143,17 +148,17 @@ impl Controller {
         requires due { AreDue self.now.device.registers.output.format blocks }
         requires whole { AreWhole (layout_now self.now.device) unheard.old.items }
         requires room { HasRoom (block_count (layout_now self.now.device) unheard.old.items + 4) heard.old }
-        requires lists { AreHeard self.now.device.codecs heard.old }
+        requires lists { AreHeardAs self.now.kind self.now.device.codecs heard.old }
         ensures heard { (layout : Layout) → layout_of self.now.device.registers.output.format ≡ Some layout
-            → heard_now self.now.device unheard.new.items heard.new
-            ≡ map (with_blocks (signal_now self.now.device) layout
+            → heard_now self.now.kind self.now.device unheard.new.items heard.new
+            ≡ map (with_blocks (signal_now self.now.kind self.now.device) layout
             (take (blocks * bytes_of_block layout.channels layout.bits) bytes.now))
-            (heard_now self.now.device unheard.old.items heard.old) }
+            (heard_now self.now.kind self.now.device unheard.old.items heard.old) }
         ensures whole { AreWhole (layout_now self.now.device) unheard.new.items }
         ensures room { (more : ℕ)
             → HasRoom (block_count (layout_now self.now.device) unheard.old.items + (4 + more)) heard.old
             → HasRoom (block_count (layout_now self.now.device) unheard.new.items + more) heard.new }
-        ensures lists { AreHeard self.now.device.codecs heard.new }
+        ensures lists { AreHeardAs self.now.kind self.now.device.codecs heard.new }
     {
         let Some(format) = self.format() else {
             unreachable!()
@@ -168,14 +173,15 @@ impl Controller {
         requires whole { AreWhole (layout_now self.now.device) bytes.now }
         requires before { AreWhole (layout_now self.now.device) unheard.old.items }
         requires room { HasRoom (block_count (layout_now self.now.device) unheard.old.items) heard.old }
-        requires lists { AreHeard self.now.device.codecs heard.old }
-        ensures heard { heard_now self.now.device unheard.new.items heard.new
-            ≡ heard_now self.now.device bytes.now (heard_now self.now.device unheard.old.items heard.old) }
+        requires lists { AreHeardAs self.now.kind self.now.device.codecs heard.old }
+        ensures heard { heard_now self.now.kind self.now.device unheard.new.items heard.new
+            ≡ heard_now self.now.kind self.now.device bytes.now
+            (heard_now self.now.kind self.now.device unheard.old.items heard.old) }
         ensures whole { AreWhole (layout_now self.now.device) unheard.new.items }
         ensures room { (more : ℕ) → HasRoom (block_count (layout_now self.now.device) unheard.old.items
             + (block_count (layout_now self.now.device) bytes.now + more)) heard.old
             → HasRoom (block_count (layout_now self.now.device) unheard.new.items + more) heard.new }
-        ensures lists { AreHeard self.now.device.codecs heard.new }
+        ensures lists { AreHeardAs self.now.kind self.now.device.codecs heard.new }
     {
         match unheard.try_extend_from_slice(bytes) {
             Ok(()) => {}
@@ -187,13 +193,13 @@ impl Controller {
     fn keep_first(&self, bytes: &[u8], unheard: &mut Unheard, heard: &mut HeardLists)
         requires few { length bytes.now ≤ 128 }
         requires room { HasRoom (block_count (layout_now self.now.device) unheard.old.items) heard.old }
-        requires lists { AreHeard self.now.device.codecs heard.old }
+        requires lists { AreHeardAs self.now.kind self.now.device.codecs heard.old }
         ensures bytes { unheard.new.items ≡ bytes.now }
-        ensures heard { heard.new ≡ heard_now self.now.device unheard.old.items heard.old }
+        ensures heard { heard.new ≡ heard_now self.now.kind self.now.device unheard.old.items heard.old }
         ensures room { (more : ℕ)
             → HasRoom (block_count (layout_now self.now.device) unheard.old.items + more) heard.old
             → HasRoom more heard.new }
-        ensures lists { AreHeard self.now.device.codecs heard.new }
+        ensures lists { AreHeardAs self.now.kind self.now.device.codecs heard.new }
     {
         self.hear(unheard.as_slice(), heard);
         unheard.clear();
@@ -207,14 +213,14 @@ impl Controller {
     fn miss(&self, unheard: &mut Unheard, heard: &mut HeardLists)
         requires whole { AreWhole (layout_now self.now.device) unheard.old.items }
         requires room { HasRoom (block_count (layout_now self.now.device) unheard.old.items + 1) heard.old }
-        requires lists { AreHeard self.now.device.codecs heard.old }
+        requires lists { AreHeardAs self.now.kind self.now.device.codecs heard.old }
         ensures none { unheard.new.items ≡ [] }
         ensures heard { heard.new ≡ map (with_items (Hole ∷ []))
-            (heard_now self.now.device unheard.old.items heard.old) }
+            (heard_now self.now.kind self.now.device unheard.old.items heard.old) }
         ensures room { (more : ℕ)
             → HasRoom (block_count (layout_now self.now.device) unheard.old.items + (1 + more)) heard.old
             → HasRoom more heard.new }
-        ensures lists { AreHeard self.now.device.codecs heard.new }
+        ensures lists { AreHeardAs self.now.kind self.now.device.codecs heard.new }
     {
         self.hear(unheard.as_slice(), heard);
         unheard.clear();
@@ -224,11 +230,11 @@ impl Controller {
     /// Lets the lists hear the blocks with these bytes.
     fn hear(&self, bytes: &[u8], heard: &mut HeardLists)
         requires room { HasRoom (block_count (layout_now self.now.device) bytes.now) heard.old }
-        requires lists { AreHeard self.now.device.codecs heard.old }
-        ensures heard { heard.new ≡ heard_now self.now.device bytes.now heard.old }
+        requires lists { AreHeardAs self.now.kind self.now.device.codecs heard.old }
+        ensures heard { heard.new ≡ heard_now self.now.kind self.now.device bytes.now heard.old }
         ensures room { (more : ℕ) → HasRoom (block_count (layout_now self.now.device) bytes.now + more) heard.old
             → HasRoom more heard.new }
-        ensures lists { AreHeard self.now.device.codecs heard.new }
+        ensures lists { AreHeardAs self.now.kind self.now.device.codecs heard.new }
     {
         if let Some(format) = self.format() {
             heard.hear(self, format, bytes);

@@ -16,6 +16,7 @@ impl Recording {
         requires { HasRoomFor 1 0 0 self.old.journal self.old.heard }
         ensures told { Went (told_of self.old) (told_of self.new) (Read at width result ∷ []) }
         ensures machine { self.new.machine ≡ self.old.machine }
+        ensures kind { self.new.kind ≡ self.old.kind }
         ensures room { (entries bytes items : ℕ) → HasRoomFor (1 + entries) bytes items self.old.journal self.old.heard
             → HasRoomFor entries bytes items self.new.journal self.new.heard }
     {
@@ -29,6 +30,7 @@ impl Recording {
         requires { HasRoomFor 1 0 0 self.old.journal self.old.heard }
         ensures told { Went (told_of self.old) (told_of self.new) (Write at width value ∷ []) }
         ensures machine { self.new.machine ≡ self.old.machine }
+        ensures kind { self.new.kind ≡ self.old.kind }
         ensures room { (entries bytes items : ℕ) → HasRoomFor (1 + entries) bytes items self.old.journal self.old.heard
             → HasRoomFor entries bytes items self.new.journal self.new.heard }
     {
@@ -42,6 +44,7 @@ impl Recording {
         requires room { HasRoomFor 1 (length into.old) 0 self.old.journal self.old.heard }
         ensures told { Went (told_of self.old) (told_of self.new) (DmaRead address into.new ∷ []) }
         ensures machine { self.new.machine ≡ self.old.machine }
+        ensures kind { self.new.kind ≡ self.old.kind }
         ensures room { (entries bytes items : ℕ) → HasRoomFor (1 + entries) (length into.old + bytes) items
             self.old.journal self.old.heard
             → HasRoomFor entries bytes items self.new.journal self.new.heard }
@@ -56,6 +59,7 @@ impl Recording {
         requires room { HasRoomFor 1 (length piece.now) 0 self.old.journal self.old.heard }
         ensures told { Went (told_of self.old) (told_of self.new) (DmaWrite address piece.now ∷ []) }
         ensures machine { self.new.machine ≡ self.old.machine }
+        ensures kind { self.new.kind ≡ self.old.kind }
         ensures room { (entries bytes items : ℕ) → HasRoomFor (1 + entries) (length piece.now + bytes) items
             self.old.journal self.old.heard
             → HasRoomFor entries bytes items self.new.journal self.new.heard }

@@ -1,12 +1,12 @@
 //! What a rig has.
 ghost use Rattle.std.specs.Prelude.{◌≡◌, true, IfOk};
-ghost use Rattle.codec_sound.specs.HeardLists.{heard};
+ghost use Rattle.codec_sound.specs.HeardLists.{heard_as};
 ghost use Rattle.hda_world.specs.JournalEvents.{events_of};
 ghost use Rattle.hda_world.specs.Tellings.{world_of};
-ghost use Rattle.heard_lists.specs.Listings.{AreListsOf, graphs_in};
-ghost use Rattle.hda_controller.specs.Controllers.{is_candidate_of};
+ghost use Rattle.heard_lists.specs.Listings.{AreListsAs, graphs_in};
+ghost use Rattle.hda_controller.specs.Controllers.{is_candidate_of_kind};
 ghost use Rattle.hda_controller.specs.Openings.{codecs_in};
-ghost use Rattle.rig.specs.Replays.{AreHeardIn};
+ghost use Rattle.rig.specs.Replays.{AreHeardInAs};
 ghost use Rattle.rig.specs.Rigs.{telling_of, setting_of};
 
 use crate::recording::Recording;
@@ -18,13 +18,15 @@ use heard_lists::HeardLists;
 use std::alloc::{AllocError, Global};
 
 impl Rig {
-    /// What a candidate pin of the codec with this address heard, oldest first, as a list of its own.
+    /// What a candidate pin of its kind, of the codec with this address, heard, oldest first, as a list of its own.
     ///
     /// # Errors
     /// Want of memory.
     pub fn heard(&self, alloc: Global, codec: u8, pin: u8) -> Result<Vec<Heard>, AllocError>
-        requires { is_candidate_of (codecs_in (setting_of self.now).machine.codecs) codec pin ≡ true }
-        ensures { IfOk result (λ items. items.items ≡ heard codec pin (world_of (telling_of self.now)).carried) }
+        requires { is_candidate_of_kind (setting_of self.now).kind (codecs_in (setting_of self.now).machine.codecs)
+            codec pin ≡ true }
+        ensures { IfOk result (λ items. items.items
+            ≡ heard_as (setting_of self.now).kind codec pin (world_of (telling_of self.now)).carried) }
     {
         let items = self.recording.heard.of(alloc, codec, pin)?;
         Ok(items)
@@ -47,8 +49,8 @@ impl Rig {
     /// The machine as its file describes it, what its pins heard, and all that happened.
     pub fn parts(self) -> (Machine, HeardLists, Journal)
         ensures machine { result.0 ≡ (setting_of self).machine }
-        ensures heard { AreHeardIn (world_of (telling_of self)) result.1 }
-        ensures pins { ∥ AreListsOf (graphs_in (setting_of self).machine.codecs) result.1 ∥₁ }
+        ensures heard { AreHeardInAs (setting_of self).kind (world_of (telling_of self)) result.1 }
+        ensures pins { ∥ AreListsAs (setting_of self).kind (graphs_in (setting_of self).machine.codecs) result.1 ∥₁ }
         ensures journal { events_of result.2 ≡ (telling_of self).journal }
     {
         let Rig {

@@ -6,4 +6,4 @@ use Rattle.codec_sound.proofs.kept.hear_all.Given as goal
 
 abbrev pub invariant-loop-kept : goal.invariant-loop-kept
 invariant-loop-kept l =
-    l.pins ≡ renewed (hears_at l.codec l.settings (in_table l.table)) (take l.kept-index l.initial.pins) ++ drop l.kept-index l.initial.pins
+    l.pins ≡ renewed (hears_at l.kind l.codec l.settings (in_table l.table)) (take l.kept-index l.initial.pins) ++ drop l.kept-index l.initial.pins

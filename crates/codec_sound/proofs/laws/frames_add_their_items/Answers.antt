@@ -1,10 +1,11 @@
+use Rattle.route_planner.specs.declared.pin_kind.PinKind.TheVariants.{Analog}
 use Rattle.codec_sound.proofs.HeardLists.{items-missed, items-empty, length-items, item-of-block}
 use Rattle.codec_sound.proofs.laws.frames_add_their_items.Goals as goal
 
 pub returns : goal.returns
 returns c = record {
-  missed = items-missed;
-  empty = items-empty;
+  missed = items-missed Analog;
+  empty = items-empty Analog;
   each = length-items;
   item = item-of-block;
 }

@@ -11,8 +11,8 @@ pub loop-file-preserved : goal.loop-file-preserved
 loop-file-preserved c =
     let files = c.args.files.now in
     let i = c.loop-file.file-index in
-    let fresh : IsFresh (codec_in (get_or files i c.file-item.result)) c.in_ok-signals_of.field-0 =
-    subst (λ (file : CodecFile). IsFresh (codec_in file) c.in_ok-signals_of.field-0) c.file-item.is c.in_ok-signals_of.ensures in
-    subst (λ (kept : List KeptSignals). AreFresh (codecs_in (take (i + 1) files)) kept) (sym c.in_ok-push.ensures.items)
-    (subst (λ (codecs : List CodecState). AreFresh codecs (c.loop-file.kept.items ++ c.in_ok-signals_of.field-0 ∷ [])) (sym (map_more codec_in files i c.file-item.result c.loop-file-test.true))
-    (fresh_push (codecs_in (take i files)) c.loop-file.kept.items (codec_in (get_or files i c.file-item.result)) c.in_ok-signals_of.field-0 c.loop-file.invariant fresh))
+    let fresh : IsFresh c.args.kind (codec_in (get_or files i c.file-item.result)) c.in_ok-signals_of.field-0 =
+    subst (λ (file : CodecFile). IsFresh c.args.kind (codec_in file) c.in_ok-signals_of.field-0) c.file-item.is c.in_ok-signals_of.ensures in
+    subst (λ (kept : List KeptSignals). AreFresh c.args.kind (codecs_in (take (i + 1) files)) kept) (sym c.in_ok-push.ensures.items)
+    (subst (λ (codecs : List CodecState). AreFresh c.args.kind codecs (c.loop-file.kept.items ++ c.in_ok-signals_of.field-0 ∷ [])) (sym (map_more codec_in files i c.file-item.result c.loop-file-test.true))
+    (fresh_push c.args.kind (codecs_in (take i files)) c.loop-file.kept.items (codec_in (get_or files i c.file-item.result)) c.in_ok-signals_of.field-0 c.loop-file.invariant fresh))

@@ -5,4 +5,4 @@ use Rattle.laws_hearing.proofs.LineHeard.{each_heard}
 use Rattle.laws_hearing.proofs.laws.silent_pins_hear_nothing.Goals as goal
 
 pub returns : goal.returns
-returns c = λ codecs tag word layout from world address pin known steady is. each_heard codecs tag word layout known from world steady address pin Silence is IsSilent refl (λ block. refl)
+returns c = λ kind codecs tag word layout from world address pin known steady is. each_heard kind codecs tag word layout known from world steady address pin Silence is IsSilent refl (λ block. refl)

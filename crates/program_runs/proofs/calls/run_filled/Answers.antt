@@ -32,4 +32,5 @@ returns-clause-ran g c =
       format_is = format_on;
       between = ap (λ (setting : Setting). setting.in_run) c.end.ensures.setting;
       machine = ap (λ (setting : Setting). setting.machine) c.end.ensures.setting ∙ ap (λ (setting : Setting). setting.machine) begun;
+      kind = ap (λ (setting : Setting). setting.kind) c.end.ensures.setting ∙ ap (λ (setting : Setting). setting.kind) begun;
     }

@@ -30,4 +30,5 @@ returns-in-Device-clause-ran g c =
       format_is = refl;
       between = ap (λ (setting : Setting). setting.in_run) c.step.ensures.setting ∙ c.requires.between;
       machine = ap (λ (setting : Setting). setting.machine) c.step.ensures.setting;
+      kind = ap (λ (setting : Setting). setting.kind) c.step.ensures.setting;
     }) c.step.ensures.went)

@@ -12,9 +12,11 @@ use Rattle.sound_report.specs.declared.played.Played.{Played}
 use Rattle.driver_bring_up.specs.Jacks.{Counts}
 use Rattle.period_writer.specs.Runs.{measures}
 use Rattle.rig.specs.Follows.{Follows}
+use Rattle.route_planner.specs.declared.pin_kind.PinKind.{PinKind}
+use Rattle.route_planner.specs.declared.pin_kind.PinKind.TheVariants.{Analog}
 use Rattle.rig.specs.Rigs.{setting_of, telling_of}
-use Rattle.rig.specs.Replays.{AreHeardIn, start_of, telling_from}
-use Rattle.heard_lists.specs.Listings.{AreListsOf, graphs_in, handed_out}
+use Rattle.rig.specs.Replays.{AreHeardInAs, start_of, telling_from}
+use Rattle.heard_lists.specs.Listings.{AreListsAs, graphs_in, handed_out}
 use Rattle.laws_start.specs.Tasks.{commands_of, blocks_of}
 use Rattle.program_runs.specs.Events.{told_in}
 use Rattle.program_runs.specs.Feeding.{Shelves, Streams, shelves_of}
@@ -169,6 +171,10 @@ module _ (g : Over) (c : After-drop-closed-3 g) where
   machine_there : (setting_of c.drive.new.rig).machine ≡ c.args.machine
   machine_there = c.in_ok-driven.ensures.machine ∙ c.in_ok-rig.ensures.machine
 
+  -- and its lists are those of analog pins
+  kind_there : (setting_of c.drive.new.rig).kind ≡ Analog
+  kind_there = c.in_ok-driven.ensures.kind ∙ c.in_ok-rig.ensures.kind
+
   -- so many frames were read
   read_counted : c.frames_read-read.result ≡ frames_read c.drive.new.cut (c.in_ok-driven.ensures.driven.last.taken + length c.in_ok-driven.ensures.driven.last.held) (measures c.args.geometry).block c.args.head.frames
   read_counted =
@@ -243,8 +249,11 @@ returns-clause-played g c =
     let journal = (telling_of c.drive.new.rig).journal in
     let heard : map handed_out c.parts-machine.result.1 ≡ lists_heard (world_of (telling_from REGION_BYTES machine journal)).carried machine.codecs c.args.plans.items =
     lists_are c.one_order.ensures head.format machine.codecs c.args.plans.items (world_of (telling_from REGION_BYTES machine journal)) c.parts-machine.result.1
-    (subst (λ (machine : Machine). AreHeardIn (world_of (telling_from REGION_BYTES machine journal)) c.parts-machine.result.1) (machine_there g c) c.parts-machine.ensures.heard)
-    (subst (λ (machine : Machine). ∥ AreListsOf (graphs_in machine.codecs) c.parts-machine.result.1 ∥₁) (machine_there g c) c.parts-machine.ensures.pins)
+    (subst (λ (kind : PinKind). AreHeardInAs kind (world_of (telling_from REGION_BYTES machine journal)) c.parts-machine.result.1) (kind_there g c)
+    (subst (λ (machine : Machine). AreHeardInAs (setting_of c.drive.new.rig).kind (world_of (telling_from REGION_BYTES machine journal)) c.parts-machine.result.1) (machine_there g c)
+    c.parts-machine.ensures.heard))
+    (subst (λ (kind : PinKind). ∥ AreListsAs kind (graphs_in machine.codecs) c.parts-machine.result.1 ∥₁) (kind_there g c)
+    (subst (λ (machine : Machine). ∥ AreListsAs (setting_of c.drive.new.rig).kind (graphs_in machine.codecs) c.parts-machine.result.1 ∥₁) (machine_there g c) c.parts-machine.ensures.pins))
     c.requires.plans in
     let by = driven machine c.args.plans.items wav c.args.geometry blocks c.args.schedule.now opened closed journal was
     laws played told (sym (can_after g c).ring_is) c.requires.format c.requires.plans c.from_vec-2.ensures c.from_vec-3.ensures c.from_vec-4.ensures

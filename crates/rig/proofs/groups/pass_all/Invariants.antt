@@ -11,6 +11,7 @@ abbrev pub invariant-loop-group : goal.invariant-loop-group
 invariant-loop-group l = record {
   told : Went (told_of l.fn.recording) (told_of l.recording) (all_steps_in (take l.group-index l.groups));
   machine : l.recording.machine ≡ l.fn.recording.machine;
+  kind : l.recording.kind ≡ l.fn.recording.kind;
   room : (entries bytes items : ℕ) → HasRoomFor (step_count (take l.group-index l.groups) + entries) bytes (item_count (take l.group-index l.groups) + items)
       l.fn.recording.journal l.fn.recording.heard → HasRoomFor entries bytes items l.recording.journal l.recording.heard;
 }

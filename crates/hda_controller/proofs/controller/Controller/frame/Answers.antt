@@ -6,7 +6,7 @@ use Rattle.hda_controller.proofs.controller.Controller.frame.Goals as goal
 
 pub invariant_of-self : goal.invariant_of-self
 invariant_of-self c =
-    device_stays c.self.inside.device c.frame.new.self c.self.inside.kept.items (keeps_same c.self.inside.device.codecs c.frame.new.self.codecs c.frame.ensures.codecs) c.frame.ensures.sound c.self.invariant
+    device_stays c.self.inside.kind c.self.inside.device c.frame.new.self c.self.inside.kept.items (keeps_same c.self.inside.device.codecs c.frame.new.self.codecs c.frame.ensures.codecs) c.frame.ensures.sound c.self.invariant
 
 pub returns-clause-stands : goal.returns-clause-stands
 returns-clause-stands c memory world is =

@@ -29,7 +29,7 @@ pub hear-requires-clause-pairs : goal.hear-requires-clause-pairs
 hear-requires-clause-pairs c k d within =
     let listing : Listing = get_or c.args.heard.now k d in
     let device = c.args.self.now.device in
-    among c.in-Some.format (codec_at listing.codec device.codecs) device.registers.output.tag device.registers.output.format listing.pin c.in-Some.ensures
+    among c.args.self.now.kind c.in-Some.format (codec_at listing.codec device.codecs) device.registers.output.tag device.registers.output.format listing.pin c.in-Some.ensures
 
 pub returns-clause-heard : goal.returns-clause-heard
 returns-clause-heard c layout reads =
@@ -38,8 +38,8 @@ returns-clause-heard c layout reads =
     let size : c.block_bytes.result ≡ bytes_of_block layout.channels layout.bits =
     c.block_bytes.ensures ∙ ap (λ (l : Layout). bytes_of_block l.channels l.bits) (sym same) in
     c.hear.ensures.lists
-    ∙ (ap (λ (l : Layout). map (with_blocks (signal_now device) l (take (c.args.blocks * c.block_bytes.result) c.args.bytes.now)) c.args.heard.now) (sym same)
-    ∙ ap (λ (n : ℕ). map (with_blocks (signal_now device) layout (take (c.args.blocks * n) c.args.bytes.now)) c.args.heard.now) size)
+    ∙ (ap (λ (l : Layout). map (with_blocks (signal_now c.args.self.now.kind device) l (take (c.args.blocks * c.block_bytes.result) c.args.bytes.now)) c.args.heard.now) (sym same)
+    ∙ ap (λ (n : ℕ). map (with_blocks (signal_now c.args.self.now.kind device) layout (take (c.args.blocks * n) c.args.bytes.now)) c.args.heard.now) size)
 
 pub returns-clause-room : goal.returns-clause-room
 returns-clause-room c more has =

@@ -32,14 +32,14 @@ pub returns-clause-heard : goal.returns-clause-heard
 returns-clause-heard c layout reads =
     let device = c.args.self.now.device in
     let front : List ℕ = take (c.args.blocks * c.block_bytes.result) c.args.bytes.now in
-    let before : List Listing = heard_now device c.args.unheard.now.items c.args.heard.now in
+    let before : List Listing = heard_now c.args.self.now.kind device c.args.unheard.now.items c.args.heard.now in
     let size : c.block_bytes.result ≡ bytes_of_block layout.channels layout.bits =
     c.block_bytes.ensures
     ∙ ap (λ (l : Layout). bytes_of_block l.channels l.bits)
     (sym (due_layout device.registers.output.format c.args.blocks c.in-Some.format c.requires.due c.in-Some.ensures layout reads)) in
     c.keep_bytes.ensures.heard
-    ∙ (ap (λ (found : Option Layout). with_heard found (signal_now device) front before) reads
-    ∙ ap (λ (n : ℕ). map (with_blocks (signal_now device) layout (take (c.args.blocks * n) c.args.bytes.now)) before) size)
+    ∙ (ap (λ (found : Option Layout). with_heard found (signal_now c.args.self.now.kind device) front before) reads
+    ∙ ap (λ (n : ℕ). map (with_blocks (signal_now c.args.self.now.kind device) layout (take (c.args.blocks * n) c.args.bytes.now)) before) size)
 
 pub returns-clause-room : goal.returns-clause-room
 returns-clause-room c more has =

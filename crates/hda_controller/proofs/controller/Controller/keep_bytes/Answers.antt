@@ -11,8 +11,8 @@ use Rattle.heard_lists.proofs.Callers.{HasRoom-fewer}
 pub returns-in-Ok-clause-heard : goal.returns-in-Ok-clause-heard
 returns-in-Ok-clause-heard c =
     let device = c.args.self.now.device in
-    ap (λ (bytes : List ℕ). heard_now device bytes c.args.heard.now) c.in-Ok.ensures.ok
-    ∙ heard-on device.registers.output.format (layout_now device) refl (signal_now device) c.args.unheard.now.items c.args.bytes.now c.args.heard.now c.requires.before
+    ap (λ (bytes : List ℕ). heard_now c.args.self.now.kind device bytes c.args.heard.now) c.in-Ok.ensures.ok
+    ∙ heard-on device.registers.output.format (layout_now device) refl (signal_now c.args.self.now.kind device) c.args.unheard.now.items c.args.bytes.now c.args.heard.now c.requires.before
 
 pub returns-in-Ok-clause-whole : goal.returns-in-Ok-clause-whole
 returns-in-Ok-clause-whole c =
@@ -39,9 +39,9 @@ keep_first-requires-clause-room c =
 pub returns-in-Err-clause-heard : goal.returns-in-Err-clause-heard
 returns-in-Err-clause-heard c =
     let device = c.args.self.now.device in
-    ap (λ (bytes : List ℕ). heard_now device bytes c.keep_first.new.heard) c.keep_first.ensures.bytes
-    ∙ (ap (heard_now device c.args.bytes.now) c.keep_first.ensures.heard
-    ∙ ap (λ v. heard_now device c.args.bytes.now (heard_now device v.items c.args.heard.now)) c.in-Err.ensures.err)
+    ap (λ (bytes : List ℕ). heard_now c.args.self.now.kind device bytes c.keep_first.new.heard) c.keep_first.ensures.bytes
+    ∙ (ap (heard_now c.args.self.now.kind device c.args.bytes.now) c.keep_first.ensures.heard
+    ∙ ap (λ v. heard_now c.args.self.now.kind device c.args.bytes.now (heard_now c.args.self.now.kind device v.items c.args.heard.now)) c.in-Err.ensures.err)
 
 pub returns-in-Err-clause-whole : goal.returns-in-Err-clause-whole
 returns-in-Err-clause-whole c =

@@ -13,7 +13,7 @@ returns-clause-bytes c =
 
 pub returns-clause-heard : goal.returns-clause-heard
 returns-clause-heard c =
-    c.hear.ensures.heard ∙ ap (λ (bytes : List ℕ). heard_now c.args.self.now.device bytes c.args.heard.now) c.as_slice.ensures.value
+    c.hear.ensures.heard ∙ ap (λ (bytes : List ℕ). heard_now c.args.self.now.kind c.args.self.now.device bytes c.args.heard.now) c.as_slice.ensures.value
 
 pub returns-clause-room : goal.returns-clause-room
 returns-clause-room c more has =

@@ -1,7 +1,7 @@
 use Rattle.std.proofs.Common.{◌≡◌, ℕ, sym, subst, arith}
 use Rattle.hda_world.specs.Steps.{times, frame_step}
 use Rattle.hda_controller.specs.Controllers.{StandsFor}
-use Rattle.hda_controller.specs.Hearing.{Grew}
+use Rattle.hda_controller.specs.Hearing.{GrewAs}
 use Rattle.hda_controller.proofs.controller.Controller.link.Goals as goal
 
 pub returns-then-frames-eq1-clause-stands : goal.returns-then-frames-eq1-clause-stands
@@ -12,4 +12,4 @@ returns-then-frames-eq1-clause-stands c memory world is =
 pub returns-then-frames-eq1-clause-heard : goal.returns-then-frames-eq1-clause-heard
 returns-then-frames-eq1-clause-heard c memory world is =
     let one : c.args.frames ≡ 1 = omega (arith, c.if-frames-eq1.true) in
-    subst (λ (n : ℕ). Grew world (times n frame_step world) c.args.heard.now c.link_alone.new.heard) (sym one) (c.link_alone.ensures.heard memory world is)
+    subst (λ (n : ℕ). GrewAs c.args.self.now.kind world (times n frame_step world) c.args.heard.now c.link_alone.new.heard) (sym one) (c.link_alone.ensures.heard memory world is)

@@ -8,8 +8,9 @@ use Rattle.hda_world.specs.Steps.{frame_carried, frame_step}
 use Rattle.device_core.specs.Devices.{DeviceState, IsWorld}
 use Rattle.heard_lists.specs.Listings.{Listing, with_items}
 use Rattle.heard_lists.proofs.Callers.{hole-grows, gap-grows, HasRoom-fewer}
+use Rattle.route_planner.specs.declared.pin_kind.PinKind.{PinKind}
 use Rattle.hda_controller.specs.Controllers.{ControllerState, signal_now}
-use Rattle.hda_controller.specs.Hearing.{Grew}
+use Rattle.hda_controller.specs.Hearing.{AreHeardAs, GrewAs}
 use Rattle.hda_controller.specs.Unheard.{AreWhole, block_count, heard_now, layout_now}
 use Rattle.hda_controller.proofs.Growth.{grew_idle, grew_gap, grew_hole, blocks_heard, due_here}
 use Rattle.hda_controller.proofs.Unheard.{count-none, heard-none, heard-same, listed-moved, room-moved, whole-moved, whole-none}
@@ -19,10 +20,11 @@ use Rattle.hda_controller.proofs.controller.Controller.link_frame.Goals as goal
 
 pub returns-in-Idle-clause-heard : goal.returns-in-Idle-clause-heard
 returns-in-Idle-clause-heard c memory world is =
-    let lists : List Listing = heard_now c.args.self.now.device c.args.unheard.now.items c.args.heard.now in
-    subst (Grew world (frame_step world) lists)
-    (sym (heard-same c.args.self.now.device c.frame.new.self.device c.frame.ensures.codecs c.frame.ensures.sound c.args.unheard.now.items c.args.heard.now))
-    (grew_idle world lists (c.in-Idle.ensures.answer memory world is).0)
+    let lists : List Listing = heard_now c.args.self.now.kind c.args.self.now.device c.args.unheard.now.items c.args.heard.now in
+    subst (λ (kind : PinKind). GrewAs c.args.self.now.kind world (frame_step world) lists (heard_now kind c.frame.new.self.device c.args.unheard.now.items c.args.heard.now)) (sym c.frame.ensures.kind)
+    (subst (GrewAs c.args.self.now.kind world (frame_step world) lists)
+    (sym (heard-same c.args.self.now.kind c.args.self.now.device c.frame.new.self.device c.frame.ensures.codecs c.frame.ensures.sound c.args.unheard.now.items c.args.heard.now))
+    (grew_idle c.args.self.now.kind world lists (c.in-Idle.ensures.answer memory world is).0))
 
 pub returns-in-Idle-clause-whole : goal.returns-in-Idle-clause-whole
 returns-in-Idle-clause-whole c =
@@ -34,14 +36,16 @@ returns-in-Idle-clause-room c more has =
 
 pub returns-in-Idle-clause-lists : goal.returns-in-Idle-clause-lists
 returns-in-Idle-clause-lists c =
-    listed-moved c.args.self.now.device c.frame.new.self.device c.frame.ensures.codecs c.frame.ensures.sound c.args.heard.now c.requires.lists
+    subst (λ (kind : PinKind). AreHeardAs kind c.frame.new.self.device.codecs c.args.heard.now) (sym c.frame.ensures.kind)
+    (listed-moved c.args.self.now.kind c.args.self.now.device c.frame.new.self.device c.frame.ensures.codecs c.frame.ensures.sound c.args.heard.now c.requires.lists)
 
 pub returns-in-Gap-clause-heard : goal.returns-in-Gap-clause-heard
 returns-in-Gap-clause-heard c memory world is =
-    let lists : List Listing = heard_now c.args.self.now.device c.args.unheard.now.items c.args.heard.now in
-    subst (Grew world (frame_step world) lists)
-    (sym (heard-same c.args.self.now.device c.frame.new.self.device c.frame.ensures.codecs c.frame.ensures.sound c.args.unheard.now.items c.args.heard.now))
-    (grew_gap world lists lists (c.in-Gap.ensures.answer memory world is).0 (gap-grows (frame_carried world (Sent [])) lists refl))
+    let lists : List Listing = heard_now c.args.self.now.kind c.args.self.now.device c.args.unheard.now.items c.args.heard.now in
+    subst (λ (kind : PinKind). GrewAs c.args.self.now.kind world (frame_step world) lists (heard_now kind c.frame.new.self.device c.args.unheard.now.items c.args.heard.now)) (sym c.frame.ensures.kind)
+    (subst (GrewAs c.args.self.now.kind world (frame_step world) lists)
+    (sym (heard-same c.args.self.now.kind c.args.self.now.device c.frame.new.self.device c.frame.ensures.codecs c.frame.ensures.sound c.args.unheard.now.items c.args.heard.now))
+    (grew_gap c.args.self.now.kind world lists lists (c.in-Gap.ensures.answer memory world is).0 (gap-grows c.args.self.now.kind (frame_carried world (Sent [])) lists refl)))
 
 pub returns-in-Gap-clause-whole : goal.returns-in-Gap-clause-whole
 returns-in-Gap-clause-whole c =
@@ -53,7 +57,8 @@ returns-in-Gap-clause-room c more has =
 
 pub returns-in-Gap-clause-lists : goal.returns-in-Gap-clause-lists
 returns-in-Gap-clause-lists c =
-    listed-moved c.args.self.now.device c.frame.new.self.device c.frame.ensures.codecs c.frame.ensures.sound c.args.heard.now c.requires.lists
+    subst (λ (kind : PinKind). AreHeardAs kind c.frame.new.self.device.codecs c.args.heard.now) (sym c.frame.ensures.kind)
+    (listed-moved c.args.self.now.kind c.args.self.now.device c.frame.new.self.device c.frame.ensures.codecs c.frame.ensures.sound c.args.heard.now c.requires.lists)
 
 -- ---- blocks
 
@@ -74,20 +79,22 @@ keep-requires-clause-room c =
 
 pub keep-requires-clause-lists : goal.keep-requires-clause-lists
 keep-requires-clause-lists c =
-    listed-moved c.args.self.now.device c.frame.new.self.device c.frame.ensures.codecs c.frame.ensures.sound c.args.heard.now c.requires.lists
+    subst (λ (kind : PinKind). AreHeardAs kind c.frame.new.self.device.codecs c.args.heard.now) (sym c.frame.ensures.kind)
+    (listed-moved c.args.self.now.kind c.args.self.now.device c.frame.new.self.device c.frame.ensures.codecs c.frame.ensures.sound c.args.heard.now c.requires.lists)
 
 pub returns-in-Blocks-clause-heard : goal.returns-in-Blocks-clause-heard
 returns-in-Blocks-clause-heard c memory world is =
     let answer = c.in-Blocks.ensures.answer memory world is in
     let device : DeviceState = c.frame.new.self.device in
-    let lists : List Listing = heard_now device c.keep.new.unheard.items c.keep.new.heard in
-    subst (λ (before : List Listing). Grew world (frame_step world) before lists)
-    (heard-same c.args.self.now.device device c.frame.ensures.codecs c.frame.ensures.sound c.args.unheard.now.items c.args.heard.now)
-    (blocks_heard world device c.in-Blocks.blocks c.frame.new.into (heard_now device c.args.unheard.now.items c.args.heard.now) lists (drop (due (output_of world)) c.args.bytes.now)
+    let lists : List Listing = heard_now c.frame.new.self.kind device c.keep.new.unheard.items c.keep.new.heard in
+    subst (λ (kind : PinKind). GrewAs kind world (frame_step world) (heard_now kind c.args.self.now.device c.args.unheard.now.items c.args.heard.now) lists) c.frame.ensures.kind
+    (subst (λ (before : List Listing). GrewAs c.frame.new.self.kind world (frame_step world) before lists)
+    (heard-same c.frame.new.self.kind c.args.self.now.device device c.frame.ensures.codecs c.frame.ensures.sound c.args.unheard.now.items c.args.heard.now)
+    (blocks_heard c.frame.new.self.kind world device c.in-Blocks.blocks c.frame.new.into (heard_now c.frame.new.self.kind device c.args.unheard.now.items c.args.heard.now) lists (drop (due (output_of world)) c.args.bytes.now)
     (c.frame.ensures.codecs ∙ sym is.codecs_are)
     (c.frame.ensures.sound.tag ∙ ap (λ (f : Fields). f.output.tag) (sym is.registers_are))
     (c.frame.ensures.sound.format ∙ ap (λ (f : Fields). f.output.format) (sym is.registers_are))
-    answer.0 answer.1 answer.2 c.keep.ensures.heard)
+    answer.0 answer.1 answer.2 c.keep.ensures.heard))
 
 pub returns-in-Blocks-clause-room : goal.returns-in-Blocks-clause-room
 returns-in-Blocks-clause-room c more has =
@@ -106,20 +113,23 @@ miss-requires-clause-room c =
 
 pub miss-requires-clause-lists : goal.miss-requires-clause-lists
 miss-requires-clause-lists c =
-    listed-moved c.args.self.now.device c.frame.new.self.device c.frame.ensures.codecs c.frame.ensures.sound c.args.heard.now c.requires.lists
+    subst (λ (kind : PinKind). AreHeardAs kind c.frame.new.self.device.codecs c.args.heard.now) (sym c.frame.ensures.kind)
+    (listed-moved c.args.self.now.kind c.args.self.now.device c.frame.new.self.device c.frame.ensures.codecs c.frame.ensures.sound c.args.heard.now c.requires.lists)
 
 pub returns-in-Hole-clause-heard : goal.returns-in-Hole-clause-heard
 returns-in-Hole-clause-heard c memory world is =
     let device : DeviceState = c.frame.new.self.device in
-    let lists : List Listing = heard_now c.args.self.now.device c.args.unheard.now.items c.args.heard.now in
+    let lists : List Listing = heard_now c.frame.new.self.kind c.args.self.now.device c.args.unheard.now.items c.args.heard.now in
     let missed : c.miss.new.heard ≡ map (with_items (Hole ∷ [])) lists =
     c.miss.ensures.heard
     ∙ ap (map (with_items (Hole ∷ [])))
-    (heard-same c.args.self.now.device device c.frame.ensures.codecs c.frame.ensures.sound c.args.unheard.now.items c.args.heard.now) in
-    let none : heard_now device c.miss.new.unheard.items c.miss.new.heard ≡ c.miss.new.heard =
-    ap (λ (bytes : List ℕ). heard_now device bytes c.miss.new.heard) c.miss.ensures.none ∙ heard-none (layout_now device) (signal_now device) c.miss.new.heard in
-    subst (Grew world (frame_step world) lists) (sym none)
-    (grew_hole world lists c.miss.new.heard (c.in-Hole.ensures.answer memory world is).0 (missed ∙ hole-grows (frame_carried world Missed) lists refl))
+    (heard-same c.frame.new.self.kind c.args.self.now.device device c.frame.ensures.codecs c.frame.ensures.sound c.args.unheard.now.items c.args.heard.now) in
+    let none : heard_now c.frame.new.self.kind device c.miss.new.unheard.items c.miss.new.heard ≡ c.miss.new.heard =
+    ap (λ (bytes : List ℕ). heard_now c.frame.new.self.kind device bytes c.miss.new.heard) c.miss.ensures.none ∙ heard-none (layout_now device) (signal_now c.frame.new.self.kind device) c.miss.new.heard in
+    subst (λ (kind : PinKind). GrewAs kind world (frame_step world) (heard_now kind c.args.self.now.device c.args.unheard.now.items c.args.heard.now)
+    (heard_now c.frame.new.self.kind device c.miss.new.unheard.items c.miss.new.heard)) c.frame.ensures.kind
+    (subst (GrewAs c.frame.new.self.kind world (frame_step world) lists) (sym none)
+    (grew_hole c.frame.new.self.kind world lists c.miss.new.heard (c.in-Hole.ensures.answer memory world is).0 (missed ∙ hole-grows c.frame.new.self.kind (frame_carried world Missed) lists refl)))
 
 pub returns-in-Hole-clause-whole : goal.returns-in-Hole-clause-whole
 returns-in-Hole-clause-whole c =

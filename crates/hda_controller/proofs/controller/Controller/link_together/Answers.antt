@@ -1,9 +1,10 @@
 use Rattle.std.proofs.Common.{◌≡◌, ◌+◌, ◌-◌, ◌*◌, ℕ, List, refl, sym, ap, subst, ◌∙◌, arith}
+use Rattle.route_planner.specs.declared.pin_kind.PinKind.{PinKind}
 use Rattle.hda_world.specs.Worlds.{World}
 use Rattle.hda_world.specs.Steps.{times, frame_step}
 use Rattle.heard_lists.specs.Listings.{Listing, HasRoom}
 use Rattle.hda_controller.specs.Controllers.{StandsFor, signal_now}
-use Rattle.hda_controller.specs.Hearing.{Grew}
+use Rattle.hda_controller.specs.Hearing.{GrewAs}
 use Rattle.hda_controller.specs.Unheard.{AreWhole, block_count, heard_now, layout_now}
 use Rattle.hda_controller.proofs.Growth.{grew_still, grew_on, times-one_more}
 use Rattle.hda_controller.proofs.Unheard.{count-none, heard-none, whole-none}
@@ -14,17 +15,18 @@ pub loop-passed-init : goal.loop-passed-init
 loop-passed-init c =
     let device = c.args.self.now.device in
     let none = c.new-unheard.ensures in
-    let heard : heard_now device c.new-unheard.result.items c.args.heard.now ≡ c.args.heard.now =
-    ap (λ (bytes : List ℕ). heard_now device bytes c.args.heard.now) none ∙ heard-none (layout_now device) (signal_now device) c.args.heard.now in
+    let heard : heard_now c.args.self.now.kind device c.new-unheard.result.items c.args.heard.now ≡ c.args.heard.now =
+    ap (λ (bytes : List ℕ). heard_now c.args.self.now.kind device bytes c.args.heard.now) none ∙ heard-none (layout_now device) (signal_now c.args.self.now.kind device) c.args.heard.now in
     let count : block_count (layout_now device) c.new-unheard.result.items ≡ 0 = ap (block_count (layout_now device)) none ∙ count-none (layout_now device) in
     record {
       stands = λ memory world is. is;
-      heard = λ memory world is. subst (Grew world world c.args.heard.now) (sym heard) (grew_still world world c.args.heard.now refl);
+      heard = λ memory world is. subst (GrewAs c.args.self.now.kind world world c.args.heard.now) (sym heard) (grew_still c.args.self.now.kind world world c.args.heard.now refl);
       whole = subst (AreWhole (layout_now device)) (sym none) (whole-none (layout_now device));
       room = λ more has.
           HasRoom-fewer (block_count (layout_now device) c.new-unheard.result.items + (4 * (c.args.frames - 0) + more)) (4 * c.args.frames + more) c.args.heard.now (omega (arith, count)) has;
       lists = c.requires.lists;
       kept = refl;
+      kind = refl;
     }
 
 pub link_frame-requires-clause-room : goal.link_frame-requires-clause-room
@@ -45,23 +47,25 @@ loop-passed-preserved c =
     let left : ℕ = c.args.frames - (passed + 1) in
     let test = c.loop-passed-test.true in
     let before : ℕ = block_count (layout_now c.loop-passed.self.device) c.loop-passed.unheard.items in
-    let old : List Listing = heard_now c.loop-passed.self.device c.loop-passed.unheard.items c.loop-passed.heard in
-    let new : List Listing = heard_now c.link_frame.new.self.device c.link_frame.new.unheard.items c.link_frame.new.heard in
+    let old : List Listing = heard_now c.loop-passed.self.kind c.loop-passed.self.device c.loop-passed.unheard.items c.loop-passed.heard in
+    let new : List Listing = heard_now c.link_frame.new.self.kind c.link_frame.new.self.device c.link_frame.new.unheard.items c.link_frame.new.heard in
     record {
       stands = λ memory world is.
           subst (λ (w : World). StandsFor memory c.link_frame.new.self w) (sym (times-one_more passed frame_step world))
           (c.link_frame.ensures.stands memory (times passed frame_step world) (c.loop-passed.invariant.stands memory world is));
       heard = λ memory world is.
-          subst (λ (w : World). Grew world w c.args.heard.now new) (sym (times-one_more passed frame_step world))
-          (grew_on world (times passed frame_step world) (frame_step (times passed frame_step world)) c.args.heard.now old new
+          subst (λ (w : World). GrewAs c.args.self.now.kind world w c.args.heard.now new) (sym (times-one_more passed frame_step world))
+          (grew_on c.args.self.now.kind world (times passed frame_step world) (frame_step (times passed frame_step world)) c.args.heard.now old new
           (c.loop-passed.invariant.heard memory world is)
-          (c.link_frame.ensures.heard memory (times passed frame_step world) (c.loop-passed.invariant.stands memory world is)));
+          (subst (λ (kind : PinKind). GrewAs kind (times passed frame_step world) (frame_step (times passed frame_step world)) old new) c.loop-passed.invariant.kind
+          (c.link_frame.ensures.heard memory (times passed frame_step world) (c.loop-passed.invariant.stands memory world is))));
       whole = c.link_frame.ensures.whole;
       room = λ more has.
           c.link_frame.ensures.room (4 * left + more)
           (HasRoom-fewer (before + (4 + (4 * left + more))) (before + (4 * (c.args.frames - passed) + more)) c.loop-passed.heard (omega (arith, test)) (c.loop-passed.invariant.room more has));
       lists = c.link_frame.ensures.lists;
       kept = c.link_frame.ensures.kept ∙ c.loop-passed.invariant.kept;
+      kind = c.link_frame.ensures.kind ∙ c.loop-passed.invariant.kind;
     }
 
 pub hear-requires-clause-room : goal.hear-requires-clause-room
@@ -84,10 +88,10 @@ pub returns-clause-heard : goal.returns-clause-heard
 returns-clause-heard c memory world is =
     let end : c.loop-passed._passed ≡ c.args.frames = omega arith in
     let device = c.loop-passed.self.device in
-    let lists : c.hear.new.heard ≡ heard_now device c.loop-passed.unheard.items c.loop-passed.heard =
-    c.hear.ensures.heard ∙ ap (λ (bytes : List ℕ). heard_now device bytes c.loop-passed.heard) c.as_slice.ensures.value in
-    subst (λ (l : List Listing). Grew world (times c.args.frames frame_step world) c.args.heard.now l) (sym lists)
-    (subst (λ (n : ℕ). Grew world (times n frame_step world) c.args.heard.now (heard_now device c.loop-passed.unheard.items c.loop-passed.heard)) end
+    let lists : c.hear.new.heard ≡ heard_now c.loop-passed.self.kind device c.loop-passed.unheard.items c.loop-passed.heard =
+    c.hear.ensures.heard ∙ ap (λ (bytes : List ℕ). heard_now c.loop-passed.self.kind device bytes c.loop-passed.heard) c.as_slice.ensures.value in
+    subst (λ (l : List Listing). GrewAs c.args.self.now.kind world (times c.args.frames frame_step world) c.args.heard.now l) (sym lists)
+    (subst (λ (n : ℕ). GrewAs c.args.self.now.kind world (times n frame_step world) c.args.heard.now (heard_now c.loop-passed.self.kind device c.loop-passed.unheard.items c.loop-passed.heard)) end
     (c.loop-passed.invariant.heard memory world is))
 
 pub returns-clause-room : goal.returns-clause-room
@@ -100,3 +104,6 @@ returns-clause-room c more has =
 
 pub returns-clause-kept : goal.returns-clause-kept
 returns-clause-kept c = c.loop-passed.invariant.kept
+
+pub returns-clause-kind : goal.returns-clause-kind
+returns-clause-kind c = c.loop-passed.invariant.kind

@@ -6,7 +6,7 @@ use Rattle.hda_controller.proofs.controller.Controller.lose.Goals as goal
 
 pub invariant_of-self : goal.invariant_of-self
 invariant_of-self c =
-    device_stays c.self.inside.device c.lose.new.self c.self.inside.kept.items c.lose.ensures.codecs (sound_same c.self.inside.device.registers c.lose.new.self.registers c.lose.ensures.registers) c.self.invariant
+    device_stays c.self.inside.kind c.self.inside.device c.lose.new.self c.self.inside.kept.items c.lose.ensures.codecs (sound_same c.self.inside.device.registers c.lose.new.self.registers c.lose.ensures.registers) c.self.invariant
 
 pub returns-clause-stands : goal.returns-clause-stands
 returns-clause-stands c memory world is =

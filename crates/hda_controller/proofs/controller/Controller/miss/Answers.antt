@@ -1,7 +1,7 @@
 use Rattle.std.proofs.Common.{◌+◌, [], ◌∷◌, ℕ, List, map, sym, ap, subst, ◌∙◌, arith}
 use Rattle.codec_sound.specs.declared.heard.Heard.TheVariants.{Hole}
 use Rattle.heard_lists.specs.Listings.{Listing, HasRoom, with_items}
-use Rattle.hda_controller.specs.Hearing.{AreHeard}
+use Rattle.hda_controller.specs.Hearing.{AreHeardAs}
 use Rattle.hda_controller.specs.Unheard.{block_count, heard_now, layout_now}
 use Rattle.hda_controller.proofs.Unheard.{listed-missed}
 use Rattle.hda_controller.proofs.controller.Controller.miss.Goals as goal
@@ -23,7 +23,7 @@ pub returns-clause-heard : goal.returns-clause-heard
 returns-clause-heard c =
     c.miss.ensures.lists
     ∙ (ap (λ (lists : List Listing). map (with_items (Hole ∷ [])) lists) c.hear.ensures.heard
-    ∙ ap (λ (bytes : List ℕ). map (with_items (Hole ∷ [])) (heard_now c.args.self.now.device bytes c.args.heard.now)) c.as_slice.ensures.value)
+    ∙ ap (λ (bytes : List ℕ). map (with_items (Hole ∷ [])) (heard_now c.args.self.now.kind c.args.self.now.device bytes c.args.heard.now)) c.as_slice.ensures.value)
 
 pub returns-clause-room : goal.returns-clause-room
 returns-clause-room c more has =
@@ -34,5 +34,5 @@ returns-clause-room c more has =
 
 pub returns-clause-lists : goal.returns-clause-lists
 returns-clause-lists c =
-    subst (AreHeard c.args.self.now.device.codecs) (sym c.miss.ensures.lists)
-    (listed-missed c.args.self.now.device.codecs c.hear.new.heard c.hear.ensures.lists)
+    subst (AreHeardAs c.args.self.now.kind c.args.self.now.device.codecs) (sym c.miss.ensures.lists)
+    (listed-missed c.args.self.now.kind c.args.self.now.device.codecs c.hear.new.heard c.hear.ensures.lists)

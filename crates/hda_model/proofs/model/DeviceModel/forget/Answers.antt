@@ -1,8 +1,8 @@
 use Rattle.std.proofs.Common.{◌≡◌, true, map, refl, sym, ap, subst, ◌∙◌}
 use Rattle.std.proofs.lemmas.List.Elements.{All-map}
 use Rattle.heard_lists.specs.Listings.{Listing, handed_out, forgotten}
-use Rattle.hda_controller.specs.Controllers.{is_candidate_of}
-use Rattle.hda_controller.specs.Hearing.{AreHeard}
+use Rattle.hda_controller.specs.Controllers.{is_candidate_of_kind}
+use Rattle.hda_controller.specs.Hearing.{AreHeardAs}
 use Rattle.hda_model.specs.Models.{ModelState, IsForgotten}
 use Rattle.hda_model.specs.Keeping.{seen}
 use Rattle.hda_model.proofs.Standing.{forgot, some_forgotten, forgotten_pins}
@@ -18,9 +18,10 @@ pub invariant_of-self : goal.invariant_of-self
 invariant_of-self c =
     let codecs = c.self.inside.controller.device.codecs in
     record {
+      kind = c.self.invariant.kind;
       known =
-          subst (AreHeard codecs) (sym c.clear.ensures)
-          (All-map (λ (l : Listing). is_candidate_of codecs l.codec l.pin ≡ true) forgotten c.self.inside.heard c.self.invariant.known);
+          subst (AreHeardAs c.self.inside.controller.kind codecs) (sym c.clear.ensures)
+          (All-map (λ (l : Listing). is_candidate_of_kind c.self.inside.controller.kind codecs l.codec l.pin ≡ true) forgotten c.self.inside.heard c.self.invariant.known);
       stands =
           some_forgotten (seen c.self.inside.controller c.self.inside.heard) (seen c.self.inside.controller c.clear.new.self) (is c) c.self.invariant.stands;
     }

@@ -8,6 +8,7 @@ invariant_of-result c =
     let controller = c.in_ok-controller.controller in
     let lists = c.in_ok-heard.heard in
     record {
+      kind = c.in_ok-controller.ensures.kind;
       known = c.in_ok-controller.ensures.lists lists c.in_ok-heard.ensures.pins;
       stands =
           some_opened machine (seen controller lists)

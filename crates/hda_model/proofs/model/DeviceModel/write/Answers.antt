@@ -1,4 +1,4 @@
-use Rattle.std.proofs.Common.{subst}
+use Rattle.std.proofs.Common.{subst, ◌∙◌}
 use Rattle.hda_model.specs.Models.{ModelState, IsWritten}
 use Rattle.hda_model.specs.Keeping.{seen}
 use Rattle.hda_model.proofs.Standing.{written, some_written}
@@ -9,6 +9,7 @@ invariant_of-self c =
     let lists = c.self.inside.heard in
     let is = written c.args.at c.args.width c.args.value c.self.inside.controller c.write.new.self lists c.write.ensures.stands in
     record {
+      kind = c.write.ensures.kind ∙ c.self.invariant.kind;
       known = c.write.ensures.lists lists c.self.invariant.known;
       stands = some_written c.args.at c.args.width c.args.value (seen c.self.inside.controller lists) (seen c.write.new.self lists) is c.self.invariant.stands;
     }

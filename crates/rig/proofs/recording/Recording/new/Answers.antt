@@ -7,12 +7,12 @@ use Rattle.rig.proofs.recording.Recording.new.Goals as goal
 
 pub invariant_of-result : goal.invariant_of-result
 invariant_of-result c =
-    let none = c.new-3.ensures in
+    let none = c.new.ensures in
     let stands : StandsFor c.in_ok-zeroed.field-0.items c.in_ok-controller.controller (start_of 4194304 c.args.machine) =
     subst (λ (bytes : List ℕ). StandsFor bytes c.in_ok-controller.controller (start_of 4194304 c.args.machine)) (sym c.in_ok-zeroed.ensures.items) (c.in_ok-controller.ensures.stands _) in
     record {
       whole = c.in_ok-zeroed.ensures.length;
       honest = honest_same _ [] _ none tt;
-      stands = merely (where_same _ [] _ _ _ _ none (where_started _ _ _ _ stands (c.in_ok-controller.ensures.lists _ c.in_ok-heard.ensures.pins) c.in_ok-heard.ensures.empty refl));
+      stands = merely (where_same _ _ [] _ _ _ _ none (where_started _ _ _ _ _ stands c.in_ok-controller.ensures.kind (c.in_ok-controller.ensures.lists _ c.in_ok-heard.ensures.pins) c.in_ok-heard.ensures.empty refl));
       pins = merely c.in_ok-heard.ensures.pins;
     }

@@ -4,7 +4,7 @@ use Rattle.std.proofs.Math.Logic.{∥∥₁_map, ∥∥₁_map₂, ∥∥₁_eli
 use Rattle.hda_world.specs.Worlds.{World}
 use Rattle.hda_world.specs.Steps.{after_step}
 use Rattle.hda_controller.specs.Controllers.{StandsFor}
-use Rattle.hda_controller.specs.Hearing.{Grew}
+use Rattle.hda_controller.specs.Hearing.{GrewAs}
 use Rattle.rig.proofs.Where.{honest_more, where_stepped, listed_stepped, whole_write}
 use Rattle.rig.proofs.recording.Recording.step.Goals as goal
 
@@ -17,13 +17,13 @@ invariant_of-self c =
     (c.step.auto.memory ∙ ap length c.as_mut_slice.ensures.value) (omega (arith, c.args.self.now.memory.ok.0)) in
     let stands : (world : World) → StandsFor c.args.self.now.memory.items c.args.self.now.controller world → StandsFor c.step.new.memory c.step.new.self (after_step c.args.step.now world) =
     λ world stood. c.step.ensures.stands world (subst (λ (bytes : List ℕ). StandsFor bytes c.args.self.now.controller world) (sym c.as_mut_slice.ensures.value) stood) in
-    let grew : (world : World) → StandsFor c.args.self.now.memory.items c.args.self.now.controller world → Grew world (after_step c.args.step.now world) c.args.self.now.heard c.step.new.heard =
+    let grew : (world : World) → StandsFor c.args.self.now.memory.items c.args.self.now.controller world → GrewAs c.args.self.now.controller.kind world (after_step c.args.step.now world) c.args.self.now.heard c.step.new.heard =
     λ world stood. c.step.ensures.heard world (subst (λ (bytes : List ℕ). StandsFor bytes c.args.self.now.controller world) (sym c.as_mut_slice.ensures.value) stood) in
     record {
       whole = ap length memory ∙ (c.step.auto.memory ∙ (ap length c.as_mut_slice.ensures.value ∙ c.args.self.now.whole));
       honest = honest_more _ _ _ _ c.args.self.now.honest c.note_step.ensures.events tt;
       stands = ∥∥₁_map c.args.self.now.stands (λ was.
-          where_stepped _ _ _ _ _ _ c.args.step.now _ c.step.new.self c.step.new.heard was c.note_step.ensures.events
-          (λ world stood. subst (λ (bytes : List ℕ). StandsFor bytes c.step.new.self (after_step c.args.step.now world)) (sym memory) (stands world stood)) grew c.step.ensures.lists);
-      pins = ∥∥₁_map₂ c.args.self.now.stands c.args.self.now.pins (λ was are. listed_stepped _ _ _ _ _ (grew _ was.stands) are);
+          where_stepped _ _ _ _ _ _ _ c.args.step.now _ c.step.new.self c.step.new.heard was c.note_step.ensures.events
+          (λ world stood. subst (λ (bytes : List ℕ). StandsFor bytes c.step.new.self (after_step c.args.step.now world)) (sym memory) (stands world stood)) grew c.step.ensures.lists c.step.ensures.kind);
+      pins = ∥∥₁_map₂ c.args.self.now.stands c.args.self.now.pins (λ was are. listed_stepped _ _ _ _ _ _ _ (grew _ was.stands) are);
     }

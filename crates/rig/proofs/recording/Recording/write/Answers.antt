@@ -7,6 +7,6 @@ invariant_of-self c = record {
   whole = c.args.self.now.whole;
   honest = honest_more _ _ _ _ c.args.self.now.honest c.note_write.ensures.events tt;
   stands = ∥∥₁_map c.args.self.now.stands (λ was.
-      where_written _ _ _ _ _ _ c.args.at c.args.width c.args.value c.write.new.self was c.note_write.ensures.events c.write.ensures.stands c.write.ensures.lists);
+      where_written _ _ _ _ _ _ _ c.args.at c.args.width c.args.value c.write.new.self was c.note_write.ensures.events c.write.ensures.stands c.write.ensures.lists c.write.ensures.kind);
   pins = c.args.self.now.pins;
 }

@@ -8,11 +8,11 @@ use Rattle.hda_registers.specs.declared.shapes.Shape.{Shape}
 use Rattle.device_core.specs.Codecs.{AreAddresses, AreIdle, addresses_of}
 use Rattle.device_core.specs.Devices.{IsWorld, new_world}
 use Rattle.hda_controller.specs.Keeping.{AreKeptFor}
-use Rattle.hda_controller.specs.Hearing.{AreHeard}
+use Rattle.hda_controller.specs.Hearing.{AreHeardAs}
 use Rattle.hda_controller.specs.Openings.{codecs_in}
 use Rattle.hda_controller.proofs.Listed.{heard_listed, addresses_opened}
 use Rattle.hda_controller.proofs.Start.{addresses_good, nothing_waits}
-use Rattle.hda_controller.proofs.controller.Controller.new.Goals as goal
+use Rattle.hda_controller.proofs.controller.Controller.of_kind.Goals as goal
 
 pub shape_of-shape-requires-clause-addresses : goal.shape_of-shape-requires-clause-addresses
 shape_of-shape-requires-clause-addresses c =
@@ -31,8 +31,8 @@ invariant_of-result c =
     let is = c.in_ok-device.ensures.stands [] in
     let codecs = ap codecs_in c.as_slice-2.ensures ∙ (sym (c.in_ok-codecs.ensures ∙ ap codecs_in c.as_slice.ensures) ∙ is.codecs_are) in
     let kept = c.in_ok-kept.kept.items in
-    subst (λ (f : Fields). AreKeptFor f.output.tag f.output.format c.in_ok-device.device.codecs kept) is.registers_are
-    (subst (λ (codecs : List CodecState). AreKeptFor 0 0 codecs kept) codecs c.in_ok-kept.ensures.fit)
+    subst (λ (f : Fields). AreKeptFor c.args.kind f.output.tag f.output.format c.in_ok-device.device.codecs kept) is.registers_are
+    (subst (λ (codecs : List CodecState). AreKeptFor c.args.kind 0 0 codecs kept) codecs c.in_ok-kept.ensures.fit)
 
 pub returns-clause-stands : goal.returns-clause-stands
 returns-clause-stands c memory =
@@ -45,8 +45,8 @@ returns-clause-renewals c = All-map (λ (count : ℕ). count ≡ 0) (λ (one : K
 
 pub returns-clause-lists : goal.returns-clause-lists
 returns-clause-lists c lists listed =
-    subst (λ (codecs : List CodecState). AreHeard codecs lists) (sym (c.in_ok-codecs.ensures ∙ ap codecs_in c.as_slice.ensures) ∙ (c.in_ok-device.ensures.stands []).codecs_are)
-    (heard_listed c.args.machine.now lists c.requires listed)
+    subst (λ (codecs : List CodecState). AreHeardAs c.args.kind codecs lists) (sym (c.in_ok-codecs.ensures ∙ ap codecs_in c.as_slice.ensures) ∙ (c.in_ok-device.ensures.stands []).codecs_are)
+    (heard_listed c.args.kind c.args.machine.now lists c.requires listed)
 
 pub returns-clause-addresses : goal.returns-clause-addresses
 returns-clause-addresses c =

@@ -1,0 +1,16 @@
+-- What the set-up of digital outputs means for a stream. This project's own.
+use Rattle.std.specs.Prelude.{ℕ}
+use Rattle.route_planner.specs.declared.pin_kind.PinKind.TheVariants.{Digital}
+use Rattle.route_planner.specs.Plans.{IsDigitalPlan}
+use Rattle.setup_verbs.specs.VerbList.{setup_verbs_as}
+use Rattle.setup_verbs.specs.SetUp.{IsDigitallySetUp}
+use Rattle.route_setup.specs.Means.{StreamMeaning}
+
+-- the plan of the digital pins, its verbs, and that each route's pin hears the first pair digitally while every other
+-- pin is silent
+abbrev pub digital : StreamMeaning
+digital format tag = record {
+  IsPlanBy = λ graph plan. IsDigitalPlan graph format plan;
+  verbs_by = λ graph plan. setup_verbs_as Digital graph plan format tag;
+  IsOpenBy = λ graph settings plan. IsDigitallySetUp graph settings plan format tag;
+}
