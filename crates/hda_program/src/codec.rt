@@ -14,7 +14,7 @@ const MOST_CODEC_BYTES: u64 = 262_144;
 ///
 /// # Errors
 /// Want of memory.
-pub(crate) fn read_codec_file<S: Shelf>(
+pub fn read_codec_file<S: Shelf>(
     alloc: Global,
     shelf: &mut S,
     name: &str,

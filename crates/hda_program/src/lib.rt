@@ -17,7 +17,9 @@ mod walk;
 mod wav;
 
 pub use answer::{Answer, answer_request};
+pub use codec::read_codec_file;
 pub use files::play_files;
 pub use message::Message;
+pub use plans::plans_of;
 pub use run::{Ended, hda_main, status_of, write_text, written_status};
 pub use sound_report::Status;

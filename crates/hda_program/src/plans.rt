@@ -15,7 +15,7 @@ use std::alloc::{AllocError, Global};
 ///
 /// # Errors
 /// Want of memory.
-pub(crate) fn plans_of(
+pub fn plans_of(
     alloc: Global,
     codecs: &[CodecFile],
     format: Format,

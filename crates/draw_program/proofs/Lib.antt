@@ -1,0 +1,3 @@
+mod CodecLemmas
+mod WordLemmas
+mod DrawLemmas

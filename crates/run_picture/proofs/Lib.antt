@@ -1,0 +1,4 @@
+pub mod BandLemmas
+pub mod MomentLemmas
+pub mod PictureLemmas
+pub mod Bounds

@@ -1,0 +1,11 @@
+pub mod Meters
+pub mod Moments
+pub mod Windows
+pub mod Columns
+pub mod Charts
+pub mod Scales
+pub mod Series
+pub mod Bands
+pub mod Panels
+pub mod Pictures
+pub mod Small
