@@ -3,7 +3,9 @@
 #![tactic(auto)]
 
 mod digital;
+mod outputs;
 
 pub use codec_sound::digital_order;
 pub use digital::Digital;
+pub use outputs::Outputs;
 pub use setup_verbs::digital_verbs_set_up;

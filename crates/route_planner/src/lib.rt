@@ -14,6 +14,6 @@ mod walk;
 pub use laws::{one_order, one_order_of_each_kind};
 pub use pin_kind::PinKind;
 pub use pin_order::{digital_order, is_headphone, order, order_as};
-pub use planner::{digital_plan, plan};
+pub use planner::{digital_plan, plan, plan_as};
 pub use routes::{Hop, Outcome, PinPlan, Plan, Route};
 pub use stream_format::{Bits, Format, Rate};

@@ -44,8 +44,17 @@ pub fn digital_plan(alloc: Global, graph: &Graph, format: Format) -> Result<Plan
     plan_as(alloc, PinKind::Digital, graph, format)
 }
 
-/// The plan of a graph for a kind of pins.
-fn plan_as(alloc: Global, kind: PinKind, graph: &Graph, format: Format) -> Result<Plan, AllocError>
+/// The plan of a graph for a kind of pins. Digital pins have the first pair each, and so have the pins of a sound of two
+/// channels, so that none of them is blocked; of analog pins and more channels some may be.
+///
+/// # Errors
+/// Want of memory.
+pub fn plan_as(
+    alloc: Global,
+    kind: PinKind,
+    graph: &Graph,
+    format: Format,
+) -> Result<Plan, AllocError>
     ensures plan { IfOk result (plans.IsPlanAs kind graph.now format) }
     ensures admissible { IfOk result (plans.HasAdmissibleRoutesAs kind graph.now format) }
     ensures only { IfOk result (laws.IsOnlyPlanAs kind graph.now format) }

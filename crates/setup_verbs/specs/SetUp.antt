@@ -14,7 +14,7 @@ use Rattle.verb_codes.specs.declared.verbs.Command.{Command}
 use Rattle.verb_codes.specs.Verbs.{IsInRange}
 use Rattle.stream_format.specs.declared.format.Format.{Format}
 use Rattle.route_planner.specs.declared.pin_kind.PinKind.{PinKind}
-use Rattle.route_planner.specs.declared.pin_kind.PinKind.TheVariants.{Digital}
+use Rattle.route_planner.specs.declared.pin_kind.PinKind.TheVariants.{Analog, Digital}
 use Rattle.route_planner.specs.declared.routes.Hop.{Hop}
 use Rattle.route_planner.specs.declared.routes.Route as declared_route
 use Rattle.route_planner.specs.declared.routes.Outcome.{Outcome}
@@ -96,6 +96,11 @@ pub record IsDigitallySetUp (codec : RawCodec) (settings : Entries) (plan : Plan
     pub others : (pin : ℕ) → passes is_pin (node_at codec pin) ≡ true → HasNoRoute plan pin
         → (signal_of codec settings (stream_of tag format) pin ≡ Silence)
         × (digital_signal_of codec settings (stream_of tag format) pin ≡ Silence)
+
+-- so for the plan of a kind of pins
+abbrev pub IsSetUpFor : PinKind → RawCodec → Entries → Plan → Format → (tag : ℕ) → Type 0
+IsSetUpFor Analog codec settings plan format tag = IsSetUp codec settings plan format tag
+IsSetUpFor Digital codec settings plan format tag = IsDigitallySetUp codec settings plan format tag
 
 -- the settings after some commands
 abbrev pub settings_after : RawCodec → Entries → List Command → Entries
