@@ -1,11 +1,12 @@
 -- What stands on a line behind its label. Linux prints each in one form. This project's own; the words are those of
 -- High Definition Audio 1.0a, 7.3.3 and 7.3.4.
-use Rattle.std.specs.Prelude.{ℕ, ◌+◌, ◌*◌, ◌-◌, ◌%◌, ◌==◌, Bool, not, ◌&&◌, List, [], ◌∷◌, length, drop, filter}
+use Rattle.std.specs.Prelude.{ℕ, ◌+◌, ◌*◌, ◌-◌, ◌%◌, ◌==◌, Bool, not, ◌&&◌, ◌||◌, List, [], ◌∷◌, length, drop, filter}
 use Rattle.std.specs.Prelude.{nat_lt, Option, Some, None, if◌then◌else◌, option_and_then, bytes_eq, codes, slice_get}
 use Rattle.dump_reader.specs.declared.facts.Gain.{Gain}
 use Rattle.dump_reader.specs.declared.cuts.Mark.TheVariants.{Bracket, Star}
 use Rattle.dump_reader.specs.Cuts.{pieces, words, begins_with}
-use Rattle.dump_reader.specs.Numbers.{◌>>=◌, within, number_in, number_of, numbers, number_at, most_word, worth}
+use Rattle.dump_reader.specs.Numbers.{◌>>=◌, within, number_in, number_of, numbers, number_at, most_word, has_word}
+use Rattle.dump_reader.specs.Numbers.{worth}
 
 abbrev pub is_filled : List ℕ → Bool
 is_filled word = not (length word == 0)
@@ -86,11 +87,15 @@ unsolicited_in text = do
   enabled ← within 0 1 digit
   Some (enabled * 128 + tag)
 
+-- bit 4 of it, which says that no copyright is claimed: old kernels name it Copyright
+abbrev pub copyright_in : List ℕ → ℕ
+copyright_in text = if has_word text (codes "Non-Copyright") || has_word text (codes "Copyright") then 16 else 0
+
 -- the low byte of the digital converter control (7.3.3.9), whose bits have names
 unfoldable pub digital_in : List ℕ → ℕ
 digital_in text =
     worth text (codes "Enabled") 1 + worth text (codes "Validity") 2 + worth text (codes "ValidityCfg") 4
-    + worth text (codes "Preemphasis") 8 + worth text (codes "Non-Copyright") 16 + worth text (codes "Non-Audio") 32
+    + worth text (codes "Preemphasis") 8 + copyright_in text + worth text (codes "Non-Audio") 32
     + worth text (codes "Pro") 64 + worth text (codes "GenLevel") 128
 
 -- supported power states (7.3.4.12), and what later revisions put in the same word

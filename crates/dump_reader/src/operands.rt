@@ -5,7 +5,7 @@ ghost use Rattle.dump_reader.specs.Numbers as numbers;
 
 use crate::cuts::{Mark, Pieces, begins_with};
 use crate::facts::Gain;
-use crate::numbers::{number_at, number_in, number_of, numbers_in, within, worth};
+use crate::numbers::{has_word, number_at, number_in, number_of, numbers_in, within, worth};
 use hda_items::Items;
 use std::alloc::{AllocError, Global};
 
@@ -149,6 +149,18 @@ fn worth_byte(text: &[u8], word: &[u8], value: u8) -> u8
     worth(text, word, u32::from(value)) as u8
 }
 
+/// Bit 4 of it, which says that no copyright is claimed: old kernels name it Copyright.
+fn copyright_in(text: &[u8]) -> u8
+    ensures value { result ≡ operands.copyright_in text.now }
+    ensures bound { result ≤ 16 }
+{
+    if has_word(text, b"Non-Copyright".as_slice()) || has_word(text, b"Copyright".as_slice()) {
+        16
+    } else {
+        0
+    }
+}
+
 /// The low byte of the digital converter control.
 #[tactic(auto, unfolding(crate::specs::Operands::digital_in))]
 pub(crate) fn digital_in(text: &[u8]) -> u8
@@ -158,7 +170,7 @@ pub(crate) fn digital_in(text: &[u8]) -> u8
     let validity = worth_byte(text, b"Validity".as_slice(), 2);
     let configuration = worth_byte(text, b"ValidityCfg".as_slice(), 4);
     let emphasis = worth_byte(text, b"Preemphasis".as_slice(), 8);
-    let copyright = worth_byte(text, b"Non-Copyright".as_slice(), 16);
+    let copyright = copyright_in(text);
     let audio = worth_byte(text, b"Non-Audio".as_slice(), 32);
     let professional = worth_byte(text, b"Pro".as_slice(), 64);
     let level = worth_byte(text, b"GenLevel".as_slice(), 128);

@@ -10,7 +10,7 @@ returns c =
       c.worth_byte-validity.ensures.value,
       c.worth_byte-configuration.ensures.value,
       c.worth_byte-emphasis.ensures.value,
-      c.worth_byte-copyright.ensures.value,
+      c.copyright_in-copyright.ensures.value,
       c.worth_byte-audio.ensures.value,
       c.worth_byte-professional.ensures.value,
       c.worth_byte-level.ensures.value,
@@ -21,5 +21,4 @@ returns c =
       c.as_slice-5.ensures,
       c.as_slice-6.ensures,
       c.as_slice-7.ensures,
-      c.as_slice-8.ensures,
     ) refl
