@@ -8,11 +8,11 @@ fn keeps_its_items(rt: HostRuntime) -> Result<(), Fail> {
     assert!(rt; list.is_empty());
     list.push(7u8)?;
     list.push(9u8)?;
-    assert_eq!(rt; list.len(), 2);
+    assert!(rt; list.len() == 2);
     let copy = Items::from_slice(rt.alloc(), list.as_slice())?;
     list.clear();
     assert!(rt; list.is_empty());
     let back = Items::from_vec(copy.into_vec());
-    assert_eq!(rt; back.as_slice(), [7, 9].as_slice());
+    assert!(rt; back.as_slice() == [7, 9].as_slice());
     Ok(())
 }

@@ -1,17 +1,20 @@
-//! Tests of shelves, sinks, supplies of sound, lists and connection lists, a module a subject. They stand here,
-//! above all of these, since a crate with tests is proved once with them and once without. Each calls what no clause
-//! can promise to succeed, or compares with values that come from the standard or from a codec file worked out by hand.
+//! Tests that are no cases in files, a module a subject: shelves, sinks, supplies of sound, lists, the journal of a rig,
+//! how often signals are worked out, and the text of what pins heard. They stand here, above all of these, since a crate
+//! with tests is proved once with them and once without. Each calls what no clause can promise to succeed, or compares
+//! with values that come from the standard or were worked out by hand.
 #![tactic(auto)]
 
 #[cfg(test)]
-mod graphs;
+mod controllers;
 #[cfg(test)]
 mod items;
 #[cfg(test)]
 mod outside;
 #[cfg(test)]
+mod rigs;
+#[cfg(test)]
 mod streams;
 #[cfg(test)]
-mod verbs;
+mod texts;
 #[cfg(test)]
-mod wavs;
+mod verbs;

@@ -2,8 +2,8 @@
 ghost use Rattle.std.specs.Prelude.{◌≡◌, ◌≢◌, ℕ, List, None, bytes_eq, if◌then◌else◌};
 
 use hda_outside::{
-    Fault, FileShelf, MemShelf, MemSink, OutSink, ReadAll, Shelf, Sink, SureShelf, SureSink,
-    read_all, write_all,
+    Fault, FileShelf, MemShelf, MemSink, ReadAll, Shelf, Sink, SureShelf, SureSink, read_all,
+    write_all,
 };
 use std::alloc::{AllocError, Global};
 use std::fs;
@@ -45,12 +45,12 @@ fn reads_whole_files(rt: HostRuntime) -> Result<(), Fail> {
     ];
     for (name, most, want) in table {
         let got = read_all(alloc, &mut planned, name, most);
-        assert_eq!(rt; outcome(&got), want, "planned {name} {most}");
+        assert!(rt; outcome(&got) == want);
         let got = read_all(alloc, &mut sure, name, most);
-        assert_eq!(rt; outcome(&got), want, "sure {name} {most}");
+        assert!(rt; outcome(&got) == want);
     }
     let got = read_all(alloc, &mut sure, "short", 9)?;
-    assert_eq!(rt; got.as_slice(), b"first".as_slice());
+    assert!(rt; got.as_slice() == b"first".as_slice());
     Ok(())
 }
 
@@ -69,11 +69,7 @@ fn fails_planned_calls(rt: HostRuntime) -> Result<(), Fail> {
         ("short", u64::MAX, Ok(0)),
     ];
     for (name, from, want) in table {
-        assert_eq!(rt;
-            shelf.read_at(alloc, name, from, &mut buf),
-            want,
-            "{name} {from}"
-        );
+        assert!(rt; shelf.read_at(alloc, name, from, &mut buf) == want);
     }
     Ok(())
 }
@@ -82,18 +78,15 @@ fn fails_planned_calls(rt: HostRuntime) -> Result<(), Fail> {
 fn writes_all_bytes(rt: HostRuntime) -> Result<(), Fail> {
     let alloc = rt.alloc();
     let mut sure = SureSink::new(alloc);
-    assert_eq!(rt; write_all(alloc, &mut sure, b"whole"), Ok(()));
-    assert_eq!(rt; sure.write(alloc, b"!"), Ok(1));
-    assert_eq!(rt; sure.bytes(), b"whole!".as_slice());
+    assert!(rt; write_all(alloc, &mut sure, b"whole") == Ok(()));
+    assert!(rt; sure.write(alloc, b"!") == Ok(1));
+    assert!(rt; sure.bytes() == b"whole!".as_slice());
 
     let mut planned = MemSink::new(alloc, 3, [2].to_vec(alloc)?);
-    assert_eq!(rt;
-        write_all(alloc, &mut planned, b"12345678"),
-        Err(Fault::Failed)
-    );
-    assert_eq!(rt; planned.bytes(), b"123456".as_slice());
-    assert_eq!(rt; write_all(alloc, &mut planned, b"78"), Ok(()));
-    assert_eq!(rt; planned.bytes(), b"12345678".as_slice());
+    assert!(rt; write_all(alloc, &mut planned, b"12345678") == Err(Fault::Failed));
+    assert!(rt; planned.bytes() == b"123456".as_slice());
+    assert!(rt; write_all(alloc, &mut planned, b"78") == Ok(()));
+    assert!(rt; planned.bytes() == b"12345678".as_slice());
     Ok(())
 }
 
@@ -126,9 +119,9 @@ fn writes_pieces(rt: HostRuntime) -> Result<(), Fail> {
         pieces: 0,
     };
     let bytes = vec![in alloc; 3; 10_000]?;
-    assert_eq!(rt; write_all(alloc, &mut sink, &bytes), Ok(()));
-    assert_eq!(rt; sink.longest, 4_096);
-    assert_eq!(rt; sink.pieces, 3);
+    assert!(rt; write_all(alloc, &mut sink, &bytes) == Ok(()));
+    assert!(rt; sink.longest == 4_096);
+    assert!(rt; sink.pieces == 3);
     Ok(())
 }
 
@@ -199,13 +192,13 @@ fn asks_under_one_name(rt: HostRuntime) -> Result<(), Fail> {
         names: String::new(alloc),
     };
     let got = read_all(alloc, &mut shelf, "asked", 100_000);
-    assert_eq!(rt; outcome(&got), Ok(70_000));
-    assert_eq!(rt; shelf.given, 70_000);
-    assert_eq!(rt; shelf.times, 3);
+    assert!(rt; outcome(&got) == Ok(70_000));
+    assert!(rt; shelf.given == 70_000);
+    assert!(rt; shelf.times == 3);
     let got = read_all(alloc, &mut shelf, "other", 100_000);
-    assert_eq!(rt; outcome(&got), Ok(0));
-    assert_eq!(rt; shelf.times, 3);
-    assert_eq!(rt; shelf.names.as_str(), "asked;asked;asked;other;");
+    assert!(rt; outcome(&got) == Ok(0));
+    assert!(rt; shelf.times == 3);
+    assert!(rt; shelf.names.as_str() == "asked;asked;asked;other;");
     Ok(())
 }
 
@@ -223,7 +216,7 @@ fn reads_files_of_the_machine(rt: HostRuntime) -> Result<(), Fail> {
     ];
     for (name, most, want) in table {
         let got = read_all(alloc, &mut shelf, name, most);
-        assert_eq!(rt; outcome(&got), want, "{name} {most}");
+        assert!(rt; outcome(&got) == want);
     }
     fs::remove_file(&rt, path)?;
     Ok(())
@@ -258,21 +251,14 @@ fn reads_a_file_of_the_machine_in_pieces(rt: HostRuntime) -> Result<(), Fail> {
     ];
     for (name, from, want) in table {
         let n = shelf.read_at(alloc, name, from, &mut buf)?;
-        assert_eq!(rt; n > 0, want, "{name} {from}");
+        assert!(rt; (n > 0) == want);
         for (place, byte) in buf.iter().enumerate() {
             let at = from.saturating_add(place as u64);
             let written = if name == path { (at % 251) as u8 } else { 0xAA };
-            assert!(rt; place >= n || *byte == written, "{name} {at}");
+            assert!(rt; place >= n || *byte == written);
         }
     }
     fs::remove_file(&rt, path)?;
     fs::remove_file(&rt, other)?;
     Ok(())
-}
-
-#[test]
-fn writes_standard_output(rt: HostRuntime) {
-    let mut out = OutSink::new(&rt);
-    let written = write_all(rt.alloc(), &mut out, b"one line on standard output\n");
-    assert_eq!(rt; written, Ok(()));
 }

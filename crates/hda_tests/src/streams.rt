@@ -1,10 +1,27 @@
-//! Sound that is read while it is taken: what a supply gives out, also where the shelf fails or the file gets shorter.
-use crate::wavs::{EIGHT_32, FOUR, MONO, MONO_24, MONO_32, RIFF, STEREO, STEREO_24, joined};
+//! What a supply of sound gives out, of a file that was read whole, and of one that is read while it is taken, also where
+//! the shelf fails or the file gets shorter.
 use hda_outside::{Cut, MemShelf, SureShelf};
 use std::alloc::{AllocError, Global};
 use std::process::Abort;
 use std::test::Fail;
 use wav_reader::{Supply, Wav, open_wav, read_wav};
+
+/// The beginning of a WAV file.
+const RIFF: &[u8] = b"RIFF\x2c\0\0\0WAVE";
+/// A chunk `fmt `: 48 kHz, 16 bits, 2 channels.
+const STEREO: &[u8] = b"fmt \x10\0\0\0\x01\0\x02\0\x80\xbb\0\0\0\xee\x02\0\x04\0\x10\0";
+/// A chunk `fmt `: 48 kHz, 16 bits, 1 channel.
+const MONO: &[u8] = b"fmt \x10\0\0\0\x01\0\x01\0\x80\xbb\0\0\0\x77\x01\0\x02\0\x10\0";
+/// A chunk `fmt `: 48 kHz, 16 bits, 4 channels.
+const FOUR: &[u8] = b"fmt \x10\0\0\0\x01\0\x04\0\x80\xbb\0\0\0\xdc\x05\0\x08\0\x10\0";
+/// A chunk `fmt `: 48 kHz, 24 bits, 2 channels.
+const STEREO_24: &[u8] = b"fmt \x10\0\0\0\x01\0\x02\0\x80\xbb\0\0\0\x65\x04\0\x06\0\x18\0";
+/// A chunk `fmt `: 48 kHz, 24 bits, 1 channel.
+const MONO_24: &[u8] = b"fmt \x10\0\0\0\x01\0\x01\0\x80\xbb\0\0\x80\x32\x02\0\x03\0\x18\0";
+/// A chunk `fmt `: 48 kHz, 32 bits, 8 channels.
+const EIGHT_32: &[u8] = b"fmt \x10\0\0\0\x01\0\x08\0\x80\xbb\0\0\0\x70\x17\0\x20\0\x20\0";
+/// A chunk `fmt `: 48 kHz, 32 bits, 1 channel.
+const MONO_32: &[u8] = b"fmt \x10\0\0\0\x01\0\x01\0\x80\xbb\0\0\0\xee\x02\0\x04\0\x20\0";
 
 /// One file, as a shelf takes it.
 fn named(alloc: Global, bytes: Vec<u8>) -> Result<Vec<(String, Vec<u8>)>, AllocError> {
@@ -15,7 +32,10 @@ fn named(alloc: Global, bytes: Vec<u8>) -> Result<Vec<(String, Vec<u8>)>, AllocE
 
 /// A file of so many bytes of sound, by its chunk `fmt `.
 fn sound_file(alloc: Global, format: &[u8], len: u32) -> Result<Vec<u8>, AllocError> {
-    let mut bytes = joined(alloc, &[RIFF, format, b"data"])?;
+    let mut bytes = Vec::new(alloc);
+    for part in [RIFF, format, b"data"] {
+        bytes.extend_from_slice(part)?;
+    }
     bytes.extend_from_slice(&len.to_le_bytes())?;
     for at in 0..len {
         bytes.push((at % 251) as u8)?;
@@ -53,8 +73,8 @@ fn take_some(supply: &mut Supply, most: usize, all: &mut Vec<u8>) -> Result<(), 
     all.extend_from_slice(&some)
 }
 
-/// How many bytes are taken at a time: whole blocks and parts of them.
-const TAKES: [usize; 4] = [3, 1, 8, 100_000];
+/// How many bytes are taken at a time: whole blocks, parts of them, and none.
+const TAKES: [usize; 5] = [3, 1, 0, 8, 100_000];
 
 /// Fails the test unless a supply gives out all of a sound, where it is filled before each time that some is taken.
 fn expect_all(
@@ -70,12 +90,12 @@ fn expect_all(
         if supply.left() == 0 {
             break;
         }
-        assert_eq!(rt; supply.fill(alloc, &mut shelf), Ok(()));
-        assert_eq!(rt; supply.held(), supply.left().min(u64::from(ring)));
-        take_some(supply, TAKES[turn % 4], &mut all)?;
+        assert!(rt; supply.fill(alloc, &mut shelf) == Ok(()));
+        assert!(rt; supply.held() == supply.left().min(u64::from(ring)));
+        take_some(supply, TAKES[turn % 5], &mut all)?;
     }
-    assert_eq!(rt; supply.fill(alloc, &mut shelf), Ok(()));
-    assert_eq!(rt; (supply.held(), supply.left()), (0, 0));
+    assert!(rt; supply.fill(alloc, &mut shelf) == Ok(()));
+    assert!(rt; supply.held() == 0 && supply.left() == 0);
     Ok(all)
 }
 
@@ -103,10 +123,13 @@ fn streams_what_it_reads(rt: HostRuntime) -> Result<(), Fail> {
     for (format, ring) in RINGS {
         // longer than a piece of 4,096 bytes, with bytes at the end that are no whole frame
         let (file, whole, mut supply) = sound_of(&rt, alloc, (format, 9_001), ring)?;
-        assert_eq!(rt; supply.left(), whole.pcm.len() as u64);
+        let mut kept = Supply::whole(read_wav(alloc, &file)?);
+        assert!(rt; kept.left() == whole.pcm.len() as u64 && supply.left() == kept.left());
+        let all = expect_all(&rt, alloc, &mut kept, Vec::new(alloc), u32::MAX)?;
+        assert!(rt; all.as_slice() == whole.pcm.as_slice());
         let all = expect_all(&rt, alloc, &mut supply, file, ring)?;
         assert!(rt; all.as_slice() == whole.pcm.as_slice());
-        assert_eq!(rt; supply.read(), all.len() as u64);
+        assert!(rt; supply.read() == all.len() as u64);
     }
     Ok(())
 }
@@ -121,14 +144,11 @@ fn expect_front(
     held: u64,
 ) -> Result<(), AllocError> {
     let mut shelf = SureShelf::new(Vec::new(alloc));
-    assert_eq!(rt; supply.fill(alloc, &mut shelf), Ok(()));
-    assert_eq!(rt;
-        (supply.held(), supply.left(), supply.read()),
-        (held, held, held)
-    );
+    assert!(rt; supply.fill(alloc, &mut shelf) == Ok(()));
+    assert!(rt; supply.held() == held && supply.left() == held && supply.read() == held);
     let mut all = Vec::new(alloc);
     take_some(supply, usize::MAX, &mut all)?;
-    assert_eq!(rt; (all.len() as u64, supply.left()), (held, 0));
+    assert!(rt; all.len() as u64 == held && supply.left() == 0);
     assert!(rt; whole.pcm.as_slice().starts_with(all.as_slice()));
     Ok(())
 }
@@ -154,7 +174,7 @@ fn stops_reading_where_the_shelf_fails(rt: HostRuntime) -> Result<(), Fail> {
     for (format, call, held) in FAILING_CALLS {
         let (file, whole, mut supply) = sound_of(&rt, alloc, (format, 9_000), 100_000)?;
         let mut failing = MemShelf::new(named(alloc, file)?, vec![in alloc; call]?);
-        assert_eq!(rt; supply.fill(alloc, &mut failing), Err(Cut::Failed));
+        assert!(rt; supply.fill(alloc, &mut failing) == Err(Cut::Failed));
         expect_front(&rt, alloc, &mut supply, &whole, held)?;
     }
     Ok(())
@@ -195,7 +215,7 @@ fn stops_reading_where_the_file_ends(rt: HostRuntime) -> Result<(), Fail> {
         file.truncate(len);
         let mut shorter = SureShelf::new(named(alloc, file)?);
         let got = supply.fill(alloc, &mut shorter);
-        assert_eq!(rt; got, Err(Cut::Short(place)), "{len}");
+        assert!(rt; got == Err(Cut::Short(place)));
         expect_front(&rt, alloc, &mut supply, &whole, held)?;
     }
     Ok(())

@@ -1,9 +1,10 @@
-//! Cases of the readers, the planner and what these stand on, from the files in `data`, each with what comes of it. A
-//! case is a line, whose first word says what is called.
+//! Cases of the readers, also of dumps of Linux, of the planner and of what these stand on, from the files in `data`, each
+//! with what comes of it. A case is a line, whose first word says what is called.
 #![tactic(auto)]
 
 mod codec_files;
 mod command_words;
+mod dumps;
 mod graphs;
 mod lists;
 mod plans;
@@ -17,13 +18,15 @@ use std::process::ExitCode;
 use test_cases::{Cases, run_cases, text_of};
 
 /// The files of cases.
-const FILES: [&str; 6] = [
+const FILES: [&str; 8] = [
     "words.txt",
     "schedules.txt",
     "sounds.txt",
     "codec_files.txt",
     "graphs.txt",
     "verbs.txt",
+    "dumps.txt",
+    "bad_dumps.txt",
 ];
 
 /// The calls that cases name.
@@ -51,6 +54,9 @@ impl Cases for Calls {
             "parameter" => verbs::tell_parameter(alloc, rest),
             "flags" => verbs::tell_flags(alloc, rest),
             "expand" => lists::tell_expanded(alloc, rest),
+            "import" => dumps::tell(alloc, rest, false),
+            "mend" => dumps::tell(alloc, rest, true),
+            "cuts" => dumps::tell_cuts(alloc, rest),
             _ => format!(in alloc; "no call"),
         }
     }

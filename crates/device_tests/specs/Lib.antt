@@ -1,1 +1,0 @@
--- This crate needs no definitions of its own.
