@@ -2,6 +2,7 @@
 use Rattle.std.proofs.Common.{◌≡◌, ◌∙◌, ◌⊎◌, ℕ, Bool, true, false, List, Option, None, inl, inr, ap, arith, refl, subst, sym}
 use Rattle.std.specs.Prelude.{IfSome}
 use Rattle.stream_format.specs.declared.format.Format.{Format}
+use Rattle.route_planner.specs.declared.pin_kind.PinKind.TheVariants.{Analog}
 use Rattle.route_planner.specs.declared.routes.Plan.{Plan}
 use Rattle.driver_agenda.specs.Planned.{have_route}
 use Rattle.hda_files.specs.declared.machine.CodecFile.{CodecFile}
@@ -99,7 +100,7 @@ module _ (told : Option Files) (failed emptied unasked : List ℕ → Type 0) (g
   by_meaning meant (inr (inl (name, format, asks, drawn))) given written = inr (by_codec name format meant asks drawn given written)
   by_meaning meant (inr (inr (codec, wav, schedule, periods, period, asks, drawn))) given written =
       let is : IsMeant told failed emptied unasked gave (played_words words) drawn.answer =
-      inr (inr (inr (inl (codec, wav, schedule, periods, period, asks, drawn.answers)))) in
+      inr (inr (inr (inl (Analog, codec, wav, schedule, periods, period, asks, drawn.answers)))) in
       inr (by_case meant drawn.answer is (cases told failed emptied unasked gave (played_words words) drawn.answer is) drawn.drawn given written)
 
   -- but for its text it has ended as `hda_play` does
@@ -140,7 +141,7 @@ module _ (told : Option Files) (failed emptied unasked : List ℕ → Type 0) (g
   kept_by meant (inr (inl (name, format, asks, drawn))) given written = no_run_kept play (given ∙ drawn_alone told failed name format meant drawn)
   kept_by meant (inr (inr (codec, wav, schedule, periods, period, asks, drawn))) given written =
       let is : IsMeant told failed emptied unasked gave (played_words words) drawn.answer =
-      inr (inr (inr (inl (codec, wav, schedule, periods, period, asks, drawn.answers)))) in
+      inr (inr (inr (inl (Analog, codec, wav, schedule, periods, period, asks, drawn.answers)))) in
       run_kept meant drawn.answer (cases told failed emptied unasked gave (played_words words) drawn.answer is) drawn.drawn given written
 
   pub promise_kept : HasEndedDrawing told failed emptied unasked gave words before after sink_failed play status → Kept play

@@ -3,7 +3,7 @@ use Rattle.std.proofs.Common.{◌≡◌, ℕ, Bool, true, false, List, [], ◌�
 use Rattle.std.specs.Prelude.{option_and_then, if◌then◌else◌}
 use Rattle.std.specs.Str.{bytes_eq}
 use Rattle.hda_outside.specs.Shelf.{Files}
-use Rattle.program_words.specs.Asked.{Asked, asked_by, asked_of, make, play, request_of, route, walk}
+use Rattle.program_words.specs.Asked.{Asked, asked_by, asked_of, make, play, request_of, route, spdif, walk}
 use Rattle.program_words.specs.Commands.{play_grammar, route_grammar}
 use Rattle.program_words.specs.Lines.{CommandLine, command_line_of}
 use Rattle.program_words.specs.declared.request.Request.{Request}
@@ -21,6 +21,8 @@ route_draws None (walk codec schedule) e = let bad : None ≡ Some (walk codec s
 route_draws (Some line) (walk codec schedule) e = cc
 route_draws None (make number) e = let bad : None ≡ Some (make number) = e in cc
 route_draws (Some line) (make number) e = cc
+route_draws None (spdif codec wav schedule periods period) e = let bad : None ≡ Some (spdif codec wav schedule periods period) = e in cc
+route_draws (Some line) (spdif codec wav schedule periods period) e = cc
 
 play_draws : (line : Option CommandLine) (asked : Asked) → option_and_then (asked_of Play) line ≡ Some asked → IsForPicture asked
 play_draws line (route codec rate bits channels) e = tt
@@ -29,6 +31,8 @@ play_draws None (walk codec schedule) e = let bad : None ≡ Some (walk codec sc
 play_draws (Some line) (walk codec schedule) e = cc
 play_draws None (make number) e = let bad : None ≡ Some (make number) = e in cc
 play_draws (Some line) (make number) e = cc
+play_draws None (spdif codec wav schedule periods period) e = let bad : None ≡ Some (spdif codec wav schedule periods period) = e in cc
+play_draws (Some line) (spdif codec wav schedule periods period) e = cc
 
 nothing_asked : (asked : Asked) → None ≡ Some asked → ⊥
 nothing_asked asked e = cc
@@ -52,3 +56,4 @@ request_drawn told failed emptied unasked gave words (request.Walk codec schedul
 request_drawn told failed emptied unasked gave words (request.Play codec wav schedule periods period) meant is drawn =
     inr (inr (codec.now, wav.now, schedule.now, periods, period, is, drawn))
 request_drawn told failed emptied unasked gave words (request.Make number) meant is drawn = absurd drawn
+request_drawn told failed emptied unasked gave words (request.Spdif codec wav schedule periods period) meant is drawn = absurd drawn

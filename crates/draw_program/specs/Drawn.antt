@@ -2,11 +2,12 @@
 -- the text is the picture of the codecs or of the run. This project's own.
 use Rattle.std.specs.Prelude.{◌≡◌, ◌⊎◌, ℕ, List, Option, Some, None, if◌then◌else◌}
 use Rattle.stream_format.specs.declared.format.Format.{Format}
+use Rattle.route_planner.specs.declared.pin_kind.PinKind.TheVariants.{Analog}
 use Rattle.route_planner.specs.declared.routes.Plan.{Plan}
 use Rattle.hda_files.specs.declared.machine.CodecFile.{CodecFile}
 use Rattle.hda_files.specs.declared.machine.Machine.{Machine}
 use Rattle.hda_outside.specs.Shelf.{Files}
-use Rattle.program_words.specs.Asked.{Asked, route, walk, play, make}
+use Rattle.program_words.specs.Asked.{Asked, route, walk, play, make, spdif}
 use Rattle.program_words.specs.declared.request.Request.{Request}
 use Rattle.program_words.specs.declared.request.Request.TheVariants as request
 use Rattle.driver_agenda.specs.Planned.{have_route}
@@ -72,17 +73,18 @@ IsDrawnOf answer meant = IsDrawnFor answer.play answer meant
 pub record PlayDrawn (told : Option Files) (failed emptied unasked : List ℕ → Type 0) (gave : ℕ → Type 0)
     (codec wav schedule : List ℕ) (periods period : ℕ) (meant : Meant) : Type 0 where
   pub answer : Meant
-  pub answers : PlayAnswers told failed emptied unasked gave codec wav schedule periods period answer
+  pub answers : PlayAnswers Analog told failed emptied unasked gave codec wav schedule periods period answer
   pub drawn : IsDrawnOf answer meant
 
 -- ---- all words
 
--- what is asked is a picture: routes, or a play
+-- what is asked is a picture: routes, or a sound through analog pins
 abbrev pub IsForPicture : Asked → Type 0
 IsForPicture (route codec rate bits channels) = Unit {0}
 IsForPicture (walk codec schedule) = ⊥
 IsForPicture (play codec wav schedule periods period) = Unit {0}
 IsForPicture (make number) = ⊥
+IsForPicture (spdif codec wav schedule periods period) = ⊥
 
 abbrev pub RequestDrawn : Option Files → (failed emptied unasked : List ℕ → Type 0) → (gave : ℕ → Type 0) → Request
     → Meant → Type 0
@@ -92,6 +94,7 @@ RequestDrawn told failed emptied unasked gave (request.Walk codec schedule) mean
 RequestDrawn told failed emptied unasked gave (request.Play codec wav schedule periods period) meant =
     PlayDrawn told failed emptied unasked gave codec.now wav.now schedule.now periods period meant
 RequestDrawn told failed emptied unasked gave (request.Make number) meant = ⊥
+RequestDrawn told failed emptied unasked gave (request.Spdif codec wav schedule periods period) meant = ⊥
 
 -- what is drawn: the usage line where the words ask for no picture, the codecs of a file, or a run
 abbrev pub IsDrawn : Option Files → (failed emptied unasked : List ℕ → Type 0) → (gave : ℕ → Type 0)

@@ -16,7 +16,7 @@ use hda_files::Machine;
 use hda_outside::Shelf;
 use hda_program::{Answer, Message, Status, answer_request, plans_of, read_codec_file};
 use program_words::{Request, WordsFault, read_words};
-use route_planner::Format;
+use route_planner::{Format, PinKind};
 use run_picture::run_picture;
 use sound_report::Played;
 use std::alloc::{AllocError, Global};
@@ -53,7 +53,7 @@ fn draw_machine(alloc: Global, machine: &Machine, format: Format) -> Result<Draw
     ensures { IfOk result (λ drawing. MachineDrawn format machine.now (drawing_meant drawing)) }
 {
     let codecs = machine.codecs.as_slice();
-    let plans = plans_of(alloc, codecs, format)?;
+    let plans = plans_of(alloc, PinKind::Analog, codecs, format)?;
     let status = if have_route(plans.as_slice()) {
         Status::Done
     } else {
@@ -157,6 +157,6 @@ fn draw_request<S: Shelf>(
             let answer = answer_request(alloc, shelf, request)?;
             draw_answer(alloc, answer)
         }
-        Request::Walk { .. } | Request::Make { .. } => unreachable!(),
+        Request::Walk { .. } | Request::Make { .. } | Request::Spdif { .. } => unreachable!(),
     }
 }

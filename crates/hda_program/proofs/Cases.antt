@@ -1,28 +1,30 @@
 -- The ways in which something is meant by words.
-use Rattle.std.proofs.Common.{◌≡◌, ◌≢◌, ℕ, ◌+◌, ◌++◌, List, [], ◌∷◌, length, Bool, true, false, inl, inr, Option, Some, refl, sym, ap, subst, arith}
-use Rattle.std.specs.Prelude.{if◌then◌else◌, option_and_then}
+use Rattle.std.proofs.Common.{◌≡◌, ℕ, ◌++◌, List, [], ◌∷◌, Bool, true, false, inl, inr, Option, Some, refl, sym, ◌∙◌, ap, subst, arith}
+use Rattle.std.specs.Prelude.{◌⊎◌, if◌then◌else◌, option_and_then}
 use Rattle.std.specs.List.{Contains}
 use Rattle.stream_format.specs.declared.format.Format.{Format}
+use Rattle.route_planner.specs.declared.pin_kind.PinKind.{PinKind}
+use Rattle.route_planner.specs.declared.pin_kind.PinKind.TheVariants.{Analog, Digital}
 use Rattle.route_planner.specs.declared.routes.Plan.{Plan}
 use Rattle.hda_outside.specs.Shelf.{Files}
 use Rattle.hda_files.specs.declared.machine.Machine.{Machine}
 use Rattle.schedule_reader.specs.declared.schedule.Schedule.{Schedule}
 use Rattle.stream_format.specs.Cadence.{hertz}
-use Rattle.program_words.specs.Asked.{Asked, bits_of, play, request_of, route, walk}
-use Rattle.period_writer.specs.declared.geometry.Geometry.{Geometry}
+use Rattle.program_words.specs.Asked.{Asked, bits_of, request_of, route, walk}
 use Rattle.wav_reader.specs.declared.opened.WavHead.{WavHead}
 use Rattle.sound_report.specs.declared.played.Played.{Played}
 use Rattle.sound_report.specs.declared.status.Status.{Status}
 use Rattle.sound_report.specs.declared.status.Status.TheVariants.{Done, WordsRefused, ShelfFailed, SinkFailed, CodecRefused, WavRefused, ScheduleRefused, NothingRouted, Unanswered, Late, ScheduleEnded, OutOfMemory, GeometryRefused, WavShrank}
 use Rattle.sound_report.specs.PlanLines.{plans_lines}
-use Rattle.hda_program.specs.Answers.{IsMeant, RouteAnswers, WalkAnswers, MachineWalks, PlansWalk, PlayAnswers, AtCodec, AtWav, AtSchedule, AtRing, AtPlans, AtRun}
-use Rattle.hda_program.specs.Asks.{IsNoCommand, IsRouteOf, IsWalkOf, IsPlayOf, Names, NamesCodecFile, codec_of, files_asked, files_of}
+use Rattle.hda_program.specs.Answers.{IsMeant, RouteAnswers, WalkAnswers, MachineWalks, PlansWalk, PlayAnswers, AtCodec, AtPins, AtWav, AtSchedule, AtRing, AtPlans, AtRun}
+use Rattle.hda_program.specs.Asks.{IsNoCommand, IsRouteOf, IsWalkOf, IsSoundOf, Names, NamesCodecFile, codec_of, files_asked, files_of}
 use Rattle.program_runs.specs.Walks.{walk_format}
-use Rattle.hda_program.specs.Causes.{HasBadCodecFile, HasBadRing, HasBadSchedule, HasBadWav, HasPlanned, NoRoute, SomeRoute, HasStoppedUnread, HasUnreadFile, WantsRun, WantsSound}
+use Rattle.hda_program.specs.Causes.{HasBadCodecFile, HasBadRing, HasBadSchedule, HasBadWav, HasManyDigitalPins, HasPlanned, NoRoute, SomeRoute, HasStoppedUnread, HasUnreadFile, WantsRun, WantsSound}
 use Rattle.hda_program.specs.Promises.{HasRun}
-use Rattle.hda_program.specs.Files.{CodecStops, IsHeadOf, IsMachineOf, IsScheduleOf, ScheduleStops, bytes_before}
+use Rattle.hda_program.specs.Files.{CodecStops, IsHeadOf, IsMachineOf, IsScheduleOf, ScheduleStops}
 use Rattle.hda_program.specs.Meanings.{Meant, run_meant, telling, unrouted}
-use Rattle.hda_program.specs.Rings.{IsRingOf}
+use Rattle.hda_program.specs.Pins.{AreFewPins, AreTooManyPins}
+use Rattle.hda_program.proofs.SoundWords.{sound_codec, sound_files}
 use Rattle.hda_program.proofs.WalkLemmas.{other_first, other_one, other_second}
 use Rattle.laws_start.specs.Tasks.{HavePlans}
 use Rattle.driver_agenda.specs.Planned.{have_route}
@@ -37,7 +39,7 @@ Cause told failed unasked words Done = IsRouted told words
 Cause told failed unasked words WordsRefused = IsNoCommand words
 Cause told failed unasked words ShelfFailed = HasUnreadFile failed words × HasStoppedUnread failed unasked (files_asked (request_of words))
 Cause told failed unasked words SinkFailed = ⊥
-Cause told failed unasked words CodecRefused = HasBadCodecFile told words
+Cause told failed unasked words CodecRefused = HasBadCodecFile told words ⊎ HasManyDigitalPins told words
 Cause told failed unasked words WavRefused = HasBadWav told words
 Cause told failed unasked words ScheduleRefused = HasBadSchedule told words
 Cause told failed unasked words NothingRouted = HasPlanned told words NoRoute
@@ -71,14 +73,15 @@ module _ (told : Option Files) (failed emptied unasked : List ℕ → Type 0) (g
       → ((other : List ℕ) → Contains after other → (Contains (name ∷ []) other → ⊥) → unasked other) → CodecStops told failed name meant → WordsCase told failed emptied unasked gave words meant
   codec_stop name after meant names among codec stopped (inl stop) =
       said ShelfFailed ((name, names, stop.0), record { before = []; name = name; after = after; among = among; unread = stop.0; stopped = stopped }) _ stop.1
-  codec_stop name after meant names among codec stopped (inr stop) = said CodecRefused (name, stop.0, codec, stop.1) _ stop.2
+  codec_stop name after meant names among codec stopped (inr stop) = said CodecRefused (inl (name, stop.0, codec, stop.1)) _ stop.2
 
-  schedule_stop : (before : List (List ℕ)) (codec name : List ℕ) (machine : Machine) (meant : Meant) → files_asked (request_of words) ≡ before ++ name ∷ [] → WantsRun told words codec name → Names words name → IsMachineOf told codec machine
+  schedule_stop : (kind : PinKind) (before : List (List ℕ)) (codec name : List ℕ) (machine : Machine) (meant : Meant) → files_asked (request_of words) ≡ before ++ name ∷ [] → WantsRun kind told words codec name → Names words name → IsMachineOf told codec machine
+      → AreFewPins kind machine.codecs
       → ScheduleStops told failed name meant → WordsCase told failed emptied unasked gave words meant
-  schedule_stop before codec name machine meant among wants names file (inl stop) =
+  schedule_stop kind before codec name machine meant among wants names file pins (inl stop) =
       said ShelfFailed ((name, names, stop.0), record { before = before; name = name; after = []; among = among; unread = stop.0; stopped = λ other within apart. none_after other within }) _ stop.1
-  schedule_stop before codec name machine meant among wants names file (inr stop) =
-      said ScheduleRefused (record { codec_name = codec; schedule_name = name; machine = machine; text = stop.0; wants = wants; codec_file = file; refused = stop.1 }) _ stop.2
+  schedule_stop kind before codec name machine meant among wants names file pins (inr stop) =
+      said ScheduleRefused (record { kind = kind; codec_name = codec; schedule_name = name; machine = machine; text = stop.0; wants = wants; codec_file = file; pins = pins; refused = stop.1 }) _ stop.2
 
   -- ---- `route`
 
@@ -86,9 +89,9 @@ module _ (told : Option Files) (failed emptied unasked : List ℕ → Type 0) (g
       → HavePlans format machine.codecs plans → (some : Bool) → have_route plans ≡ some
       → meant ≡ (if some then telling Done (plans_lines machine.codecs plans) else unrouted machine.codecs plans) → WordsCase told failed emptied unasked gave words meant
   route_plans name format machine plans meant is file planned true some e =
-      said Done (name, format, is, record { codec_name = name; format = format; machine = machine; plans = plans; wants = inl is; codec_file = file; planned = planned; routed = some }) _ e
+      said Done (name, format, is, record { kind = Analog; codec_name = name; format = format; machine = machine; plans = plans; wants = inl (refl, is); codec_file = file; pins = tt; planned = planned; routed = some }) _ e
   route_plans name format machine plans meant is file planned false some e =
-      said NothingRouted (record { codec_name = name; format = format; machine = machine; plans = plans; wants = inl is; codec_file = file; planned = planned; routed = some }) _ e
+      said NothingRouted (record { kind = Analog; codec_name = name; format = format; machine = machine; plans = plans; wants = inl (refl, is); codec_file = file; pins = tt; planned = planned; routed = some }) _ e
 
   route_cases : (name : List ℕ) (format : Format) (meant : Meant) → IsRouteOf words name format → RouteAnswers told failed name format meant → WordsCase told failed emptied unasked gave words meant
   route_cases name format meant is (inl stop) =
@@ -103,12 +106,14 @@ module _ (told : Option Files) (failed emptied unasked : List ℕ → Type 0) (g
       → IsScheduleOf told name schedule → HavePlans walk_format machine.codecs plans → PlansWalk machine schedule plans meant → WordsCase told failed emptied unasked gave words meant
   walk_plans codec name machine schedule plans meant is file steps planned (inl none) =
       said NothingRouted (record {
+        kind = Analog;
         codec_name = codec;
         format = walk_format;
         machine = machine;
         plans = plans;
-        wants = inr (inl (name, is, refl));
+        wants = inr (inl (name, refl, is, refl));
         codec_file = file;
+        pins = tt;
         planned = planned;
         routed = none.0;
       }) _ none.1
@@ -133,7 +138,7 @@ module _ (told : Option Files) (failed emptied unasked : List ℕ → Type 0) (g
   walk_machine : (codec name : List ℕ) (machine : Machine) (meant : Meant) → IsWalkOf words codec name → IsMachineOf told codec machine → MachineWalks told failed machine name meant
       → WordsCase told failed emptied unasked gave words meant
   walk_machine codec name machine meant is file (inl stop) =
-      schedule_stop (codec ∷ []) codec name machine meant (ap files_asked is) (inl is) (names_of (walk codec name) name is (1, omega arith, refl)) file stop
+      schedule_stop Analog (codec ∷ []) codec name machine meant (ap files_asked is) (inl (refl, is)) (names_of (walk codec name) name is (1, omega arith, refl)) file tt stop
   walk_machine codec name machine meant is file (inr answers) =
       walk_plans codec name machine answers.0 answers.2.0 meant is file answers.1 answers.2.1 answers.2.2
 
@@ -143,30 +148,57 @@ module _ (told : Option Files) (failed emptied unasked : List ℕ → Type 0) (g
       (λ other within apart. stop.1 other (other_one codec other apart)) stop.0
   walk_cases codec name meant is (inr answers) = walk_machine codec name answers.0 meant is answers.1 answers.2
 
-  -- ---- `play`
+  -- ---- `play` and `spdif`
 
-  module _ (codec wav name : List ℕ) (periods period : ℕ) (meant : Meant) (is : IsPlayOf words codec wav name periods period) where
-    play_wants : (head : WavHead) → IsHeadOf told wav head → WantsSound told words codec name head
+  -- digital pins alone can be too many
+  many_pins : (kind : PinKind) (codec wav name : List ℕ) (periods period : ℕ) (machine : Machine) → IsSoundOf kind words codec wav name periods period → IsMachineOf told codec machine
+      → AreTooManyPins kind machine.codecs → HasManyDigitalPins told words
+  many_pins Analog codec wav name periods period machine is file many = absurd many
+  many_pins Digital codec wav name periods period machine is file many = record {
+    codec_name = codec;
+    wav_name = wav;
+    schedule_name = name;
+    periods = periods;
+    period = period;
+    machine = machine;
+    asks = is;
+    codec_file = file;
+    many = many;
+  }
+
+  module _ (kind : PinKind) (codec wav name : List ℕ) (periods period : ℕ) (meant : Meant) (is : IsSoundOf kind words codec wav name periods period) where
+    files_are : files_asked (request_of words) ≡ codec ∷ wav ∷ name ∷ []
+    files_are = ap files_asked is ∙ sound_files kind codec wav name periods period
+
+    codec_named : NamesCodecFile words codec
+    codec_named = ap (option_and_then codec_of) is ∙ sound_codec kind codec wav name periods period
+
+    named_of : (other : List ℕ) → Contains (codec ∷ wav ∷ name ∷ []) other → Names words other
+    named_of other among = subst (λ (names : List (List ℕ)). Contains names other) (sym files_are) among
+
+    play_wants : (head : WavHead) → IsHeadOf told wav head → WantsSound kind told words codec name head
     play_wants head file = record { wav_name = wav; periods = periods; period = period; asks = is; wav_file = file }
 
-    play_cases : PlayAnswers told failed emptied unasked gave codec wav name periods period meant → WordsCase told failed emptied unasked gave words meant
+    play_cases : PlayAnswers kind told failed emptied unasked gave codec wav name periods period meant → WordsCase told failed emptied unasked gave words meant
     play_cases (AtCodec stop alone) =
-        codec_stop codec (wav ∷ name ∷ []) meant (names_of (play codec wav name periods period) codec is (0, omega arith, refl)) (ap files_asked is) (ap (option_and_then codec_of) is)
+        codec_stop codec (wav ∷ name ∷ []) meant (named_of codec (0, omega arith, refl)) files_are codec_named
         (λ other within apart. alone other (other_one codec other apart)) stop
-    play_cases (AtWav machine file (inl stop) alone) =
+    play_cases (AtPins machine file stop alone) = said CodecRefused (inr (many_pins kind codec wav name periods period machine is file stop.0)) _ stop.1
+    play_cases (AtWav machine file pins (inl stop) alone) =
         said ShelfFailed (
-          (wav, names_of (play codec wav name periods period) wav is (1, omega arith, refl), stop.0),
+          (wav, named_of wav (1, omega arith, refl), stop.0),
           record {
             before = codec ∷ [];
             name = wav;
             after = name ∷ [];
-            among = ap files_asked is;
+            among = files_are;
             unread = stop.0;
             stopped = λ other within apart. alone other (other_second codec wav other apart) (other_first codec wav other apart);
           },
         ) _ stop.1
-    play_cases (AtWav machine file (inr stop) alone) =
+    play_cases (AtWav machine file pins (inr stop) alone) =
         said WavRefused (record {
+          kind = kind;
           codec_name = codec;
           wav_name = wav;
           schedule_name = name;
@@ -176,12 +208,14 @@ module _ (told : Option Files) (failed emptied unasked : List ℕ → Type 0) (g
           text = stop.0;
           asks = is;
           codec_file = file;
+          pins = pins;
           refused = stop.1;
         }) _ stop.2
-    play_cases (AtSchedule machine head file wav_file stop) =
-        schedule_stop (codec ∷ wav ∷ []) codec name machine meant (ap files_asked is) (inr (head, play_wants head wav_file)) (names_of (play codec wav name periods period) name is (2, omega arith, refl)) file stop
-    play_cases (AtRing machine head schedule file wav_file steps stop) =
+    play_cases (AtSchedule machine head file pins wav_file stop) =
+        schedule_stop kind (codec ∷ wav ∷ []) codec name machine meant files_are (inr (head, play_wants head wav_file)) (named_of name (2, omega arith, refl)) file pins stop
+    play_cases (AtRing machine head schedule file pins wav_file steps stop) =
         said GeometryRefused (record {
+          kind = kind;
           codec_name = codec;
           wav_name = wav;
           schedule_name = name;
@@ -193,24 +227,27 @@ module _ (told : Option Files) (failed emptied unasked : List ℕ → Type 0) (g
           fault = stop.0;
           asks = is;
           codec_file = file;
+          pins = pins;
           wav_file = wav_file;
           schedule_file = steps;
           refused = stop.1;
         }) _ stop.2
-    play_cases (AtPlans machine head schedule geometry plans file wav_file steps ring planned none same) =
+    play_cases (AtPlans machine head schedule geometry plans file pins wav_file steps ring planned none same) =
         said NothingRouted (record {
+          kind = kind;
           codec_name = codec;
           format = head.format;
           machine = machine;
           plans = plans;
           wants = inr (inr (name, head, play_wants head wav_file, refl));
           codec_file = file;
+          pins = pins;
           planned = planned;
           routed = none;
         }) _ same
     play_cases (AtRun played files same) =
         ran played _ (inl (
-          inr (record { codec_name = codec; wav_name = wav; schedule_name = name; periods = periods; period = period; asks = is; files = files }),
+          inr (record { kind = kind; codec_name = codec; wav_name = wav; schedule_name = name; periods = periods; period = period; asks = is; files = files }),
           refl,
         )) same
 
@@ -220,6 +257,6 @@ module _ (told : Option Files) (failed emptied unasked : List ℕ → Type 0) (g
   cases meant (inl refused) = said WordsRefused refused.0 _ refused.1
   cases meant (inr (inl asked)) = route_cases asked.0 asked.1 meant asked.2 asked.3
   cases meant (inr (inr (inl asked))) = walk_cases asked.0 asked.1 meant asked.2 asked.3
-  cases meant (inr (inr (inr (inl asked)))) = play_cases asked.0 asked.1 asked.2 asked.3 asked.4 meant asked.5 asked.6
+  cases meant (inr (inr (inr (inl asked)))) = play_cases asked.0 asked.1 asked.2 asked.3 asked.4 asked.5 meant asked.6 asked.7
   cases meant (inr (inr (inr (inr asked)))) =
       ran asked.2.played _ (inr (record { number = asked.0; asks = asked.1; run = asked.2.run; ends = asked.2.ends; line = refl })) asked.2.is

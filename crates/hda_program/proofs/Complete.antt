@@ -1,20 +1,21 @@
--- Where nothing is refused, `play` and `walk` come to their runs.
-use Rattle.std.proofs.Common.{◌≡◌, ◌≢◌, ◌∙◌, ◌+◌, ℕ, List, length, true, false, inl, inr, Option, Some, None, refl, sym, ap, subst}
+-- Where nothing is refused, sounds and walks come to their runs.
+use Rattle.std.proofs.Common.{◌≡◌, ◌≢◌, ◌∙◌, ℕ, List, true, false, inl, inr, Option, Some, None, refl, sym, ap, subst}
 use Rattle.std.specs.Prelude.{◌⊎◌, if◌then◌else◌, Bool, IsSome}
 use Rattle.stream_format.specs.declared.format.Rate.{Rate}
 use Rattle.stream_format.specs.declared.format.Bits.{Bits}
 use Rattle.stream_format.specs.Layouts.{layout}
 use Rattle.sound_report.specs.PlanLines.{plans_lines}
 use Rattle.stream_format.specs.declared.format.Format.{Format}
+use Rattle.route_planner.specs.declared.pin_kind.PinKind.{PinKind}
+use Rattle.route_planner.specs.declared.pin_kind.PinKind.TheVariants.{Analog}
 use Rattle.route_planner.specs.declared.routes.Plan.{Plan}
 use Rattle.hda_outside.specs.Shelf.{Files}
 use Rattle.stream_format.proofs.Callers.{one_format}
 use Rattle.hda_files.specs.declared.machine.Machine.{Machine}
 use Rattle.schedule_reader.specs.declared.schedule.Schedule.{Schedule}
 use Rattle.stream_format.specs.Cadence.{hertz}
-use Rattle.program_words.specs.Asked.{Asked, bits_of, play, route, walk, make}
+use Rattle.program_words.specs.Asked.{bits_of, route, walk, make}
 use Rattle.program_words.proofs.Callers.{bits_of-same, hertz-same}
-use Rattle.period_writer.specs.declared.geometry.Geometry.{Geometry}
 use Rattle.period_writer.specs.declared.geometry.GeometryFault.{GeometryFault}
 use Rattle.period_writer.specs.Rings.{fault_of}
 use Rattle.wav_reader.specs.declared.opened.WavHead.{WavHead}
@@ -30,14 +31,17 @@ use Rattle.sound_report.specs.Statuses.{number_of}
 use Rattle.program_runs.specs.Plays.{IsCutUnder}
 use Rattle.program_runs.specs.Walks.{IsWalked, walk_fault, walk_format}
 use Rattle.laws_start.specs.Tasks.{HavePlans}
-use Rattle.hda_program.specs.Answers.{HasEnded, HasEndedPlay, HasEndedWith, HasWritten, IsMeant, MachineWalks, PlansWalk, PlayAnswers, RouteAnswers, WalkAnswers, AtCodec, AtWav, AtSchedule, AtRing, AtPlans, AtRun}
-use Rattle.hda_program.specs.Asks.{IsPlayOf, IsRouteOf, IsWalkOf}
+use Rattle.program_runs.specs.Outputs.{HavePlansOf}
+use Rattle.hda_program.specs.Answers.{HasEnded, HasEndedPlay, HasEndedWith, HasWritten, IsMeant, MachineWalks, PlansWalk, PlayAnswers, RouteAnswers, WalkAnswers, AtCodec, AtPins, AtWav, AtSchedule, AtRing, AtPlans, AtRun}
+use Rattle.hda_program.specs.Asks.{IsRouteOf, IsSoundOf, IsWalkOf, sound_asked}
+use Rattle.hda_program.specs.Pins.{AreFewPins}
 use Rattle.hda_program.specs.Causes.{IsOfPlay, IsOfWalk, IsShortCut}
-use Rattle.hda_program.specs.Files.{IsHeadIn, bytes_before}
 use Rattle.hda_program.specs.Complete.{CanPlay, CanRoute, CanWalk, HasPlayedOn, HasRoutes, HasWalkedOn}
 use Rattle.hda_program.specs.Meanings.{Meant, end_status, fault_status, of_run, status_of, telling, unrouted}
 use Rattle.driver_agenda.specs.Planned.{have_route}
-use Rattle.hda_program.proofs.Endings.{never_short, not_route_and_play, not_route_and_walk, same_asked}
+use Rattle.hda_program.proofs.Endings.{never_short, not_route_and_sound, not_route_and_walk, same_asked}
+use Rattle.hda_program.proofs.PinLemmas.{not_few_and_many}
+use Rattle.hda_program.proofs.SoundWords.{no_sound, same_sound}
 use Rattle.hda_program.proofs.OneReading.{codec_unrefused, one_machine, one_plans, one_wav_format, schedule_unrefused, wav_unrefused}
 
 -- ---- the statuses of runs
@@ -77,14 +81,14 @@ uncut name head read failed emptied (Some (cuts.Short place)) end under good lon
 abbrev IsRunOf : (ℕ → Type 0) → Meant → Type 0
 IsRunOf IsOf meant = (played : Played) × IsOf (number_of (status_of played)) × (meant ≡ of_run played)
 
-same_routes : (format : Format) (machine : Machine) (one other : List Plan) → HavePlans format machine.codecs one → HavePlans format machine.codecs other → have_route one ≡ true
+same_routes : (kind : PinKind) (format : Format) (machine : Machine) (one other : List Plan) → HavePlansOf kind format machine.codecs one → HavePlansOf kind format machine.codecs other → have_route one ≡ true
     → have_route other ≡ false → ⊥
-same_routes format machine one other h k routed none =
-    let bad : true ≡ false = sym routed ∙ (ap have_route (sym (one_plans format machine.codecs one other h k)) ∙ none) in cc
+same_routes kind format machine one other h k routed none =
+    let bad : true ≡ false = sym routed ∙ (ap have_route (sym (one_plans kind format machine.codecs one other h k)) ∙ none) in cc
 
--- ---- `play`
+-- ---- `play` and `spdif`
 
-module _ (told : Option Files) (failed emptied : List ℕ → Type 0) (codec wav name : List ℕ) (periods period : ℕ) (can : CanPlay told failed codec wav name periods period) (meant : Meant) where
+module _ (kind : PinKind) (told : Option Files) (failed emptied : List ℕ → Type 0) (codec wav name : List ℕ) (periods period : ℕ) (can : CanPlay kind told failed codec wav name periods period) (meant : Meant) where
   abbrev Here : Option Files
   Here = Some can.files
 
@@ -97,28 +101,31 @@ module _ (told : Option Files) (failed emptied : List ℕ → Type 0) (codec wav
       let bad : None ≡ Some end = sym good ∙ faulty in cc
 
   -- whichever way it ends, it is with a run
-  play_files : (unasked : List ℕ → Type 0) (gave : ℕ → Type 0) → PlayAnswers Here failed emptied unasked gave codec wav name periods period meant → IsRunOf IsOfPlay meant
+  play_files : (unasked : List ℕ → Type 0) (gave : ℕ → Type 0) → PlayAnswers kind Here failed emptied unasked gave codec wav name periods period meant → IsRunOf IsOfPlay meant
   play_files unasked gave (AtCodec (inl stop) alone) = absurd (can.codec_given stop.0)
   play_files unasked gave (AtCodec (inr stop) alone) = absurd (codec_unrefused can.files codec stop.0 can.machine can.codec_file stop.1)
-  play_files unasked gave (AtWav machine file (inl stop) alone) = absurd (can.wav_given stop.0)
-  play_files unasked gave (AtWav machine file (inr stop) alone) = absurd (wav_unrefused can.files wav stop.0 can.head can.wav_file stop.1)
-  play_files unasked gave (AtSchedule machine head file wav_file (inl stop)) = absurd (can.schedule_given stop.0)
-  play_files unasked gave (AtSchedule machine head file wav_file (inr stop)) = absurd (schedule_unrefused can.files name stop.0 can.schedule can.schedule_file stop.1)
-  play_files unasked gave (AtRing machine head schedule file wav_file steps stop) =
+  play_files unasked gave (AtPins machine file stop alone) =
+      let same : can.machine ≡ machine = one_machine can.files codec machine can.machine file can.codec_file in
+      absurd (not_few_and_many kind machine.codecs (subst (λ (m : Machine). AreFewPins kind m.codecs) same can.pins) stop.0)
+  play_files unasked gave (AtWav machine file pins (inl stop) alone) = absurd (can.wav_given stop.0)
+  play_files unasked gave (AtWav machine file pins (inr stop) alone) = absurd (wav_unrefused can.files wav stop.0 can.head can.wav_file stop.1)
+  play_files unasked gave (AtSchedule machine head file pins wav_file (inl stop)) = absurd (can.schedule_given stop.0)
+  play_files unasked gave (AtSchedule machine head file pins wav_file (inr stop)) = absurd (schedule_unrefused can.files name stop.0 can.schedule can.schedule_file stop.1)
+  play_files unasked gave (AtRing machine head schedule file pins wav_file steps stop) =
       absurd (ring_good machine head stop.0 (one_machine can.files codec machine can.machine file can.codec_file) (one_wav_format can.files wav head can.head wav_file.file can.wav_file) stop.1)
-  play_files unasked gave (AtPlans machine head schedule geometry plans file wav_file steps ring planned none is) =
-      let P : Format → Type 0 = λ f. HavePlans f can.machine.codecs can.plans in
-      let Q : Machine → Type 0 = λ m. HavePlans head.format m.codecs can.plans in
+  play_files unasked gave (AtPlans machine head schedule geometry plans file pins wav_file steps ring planned none is) =
+      let P : Format → Type 0 = λ f. HavePlansOf kind f can.machine.codecs can.plans in
+      let Q : Machine → Type 0 = λ m. HavePlansOf kind head.format m.codecs can.plans in
       let format : can.head.format ≡ head.format = one_wav_format can.files wav head can.head wav_file.file can.wav_file in
       let same : can.machine ≡ machine = one_machine can.files codec machine can.machine file can.codec_file in
-      absurd (same_routes head.format machine can.plans plans (subst Q same (subst P format can.planned)) planned can.routed none)
+      absurd (same_routes kind head.format machine can.plans plans (subst Q same (subst P format can.planned)) planned can.routed none)
   play_files unasked gave (AtRun played run is) =
-      let long : IsShortCut played.cut → ⊥ = λ short. never_short can.files wav run.head run.machine run.plans run.geometry run.schedule played run.wav_file.file run.run short in
+      let long : IsShortCut played.cut → ⊥ = λ short. never_short kind can.files wav run.head run.machine run.plans run.geometry run.schedule played run.wav_file.file run.run short in
       (played, uncut wav run.head played.read (failed wav) (emptied wav) played.cut played.fault run.cut can.wav_given long, is)
 
-  play_meant : (unasked : List ℕ → Type 0) (gave : ℕ → Type 0) → PlayAnswers told failed emptied unasked gave codec wav name periods period meant → IsRunOf IsOfPlay meant
+  play_meant : (unasked : List ℕ → Type 0) (gave : ℕ → Type 0) → PlayAnswers kind told failed emptied unasked gave codec wav name periods period meant → IsRunOf IsOfPlay meant
   play_meant unasked gave answers =
-      let P : Option Files → Type 0 = λ t. PlayAnswers t failed emptied unasked gave codec wav name periods period meant in play_files unasked gave (subst P can.tells answers)
+      let P : Option Files → Type 0 = λ t. PlayAnswers kind t failed emptied unasked gave codec wav name periods period meant in play_files unasked gave (subst P can.tells answers)
 
 -- ---- `walk`
 
@@ -130,7 +137,7 @@ module _ (told : Option Files) (failed unasked : List ℕ → Type 0) (codec nam
       → PlansWalk machine schedule plans meant → IsRunOf IsOfWalk meant
   walk_plans machine schedule plans same planned (inl none) =
       let Q : Machine → Type 0 = λ m. HavePlans walk_format m.codecs can.plans in
-      absurd (same_routes walk_format machine can.plans plans (subst Q same can.planned) planned can.routed none.0)
+      absurd (same_routes Analog walk_format machine can.plans plans (subst Q same can.planned) planned can.routed none.0)
   walk_plans machine schedule plans same planned (inr (played, routed, walked, is)) = (played, walk_end machine plans schedule played walked, is)
 
   walk_machine : (machine : Machine) → can.machine ≡ machine → MachineWalks HereWalk failed machine name meant → IsRunOf IsOfWalk meant
@@ -160,7 +167,7 @@ module _ (told : Option Files) (failed : List ℕ → Type 0) (name : List ℕ) 
       → meant ≡ (if some then telling Done (plans_lines machine.codecs plans) else unrouted machine.codecs plans) → IsDone meant
   route_done machine plans same planned true routed is = ap (λ (m : Meant). number_of m.status) is
   route_done machine plans same planned false routed is =
-      let Q : Machine → Type 0 = λ m. HavePlans format m.codecs can.plans in absurd (same_routes format machine can.plans plans (subst Q same can.planned) planned can.routed routed)
+      let Q : Machine → Type 0 = λ m. HavePlans format m.codecs can.plans in absurd (same_routes Analog format machine can.plans plans (subst Q same can.planned) planned can.routed routed)
 
   route_file : RouteAnswers HereRoute failed name format meant → IsDone meant
   route_file (inl (inl stop)) = absurd (can.codec_given stop.0)
@@ -196,8 +203,8 @@ route_of_words told failed emptied unasked gave words name format meant routes (
 route_of_words told failed emptied unasked gave words name format meant routes (inr (inr (inl (codec, schedule, asks, answers)))) = absurd (not_route_and_walk words name format codec schedule routes asks)
 route_of_words told failed emptied unasked gave words name format meant routes (inr (inr (inr (inr (number, asks, answers))))) =
     let bad : make number ≡ route name (hertz format.rate) (bits_of format.bits) format.channels = same_asked words _ _ asks routes in cc
-route_of_words told failed emptied unasked gave words name format meant routes (inr (inr (inr (inl (codec, wav, schedule, most, units, asks, answers))))) =
-    absurd (not_route_and_play words name format codec wav schedule most units routes asks)
+route_of_words told failed emptied unasked gave words name format meant routes (inr (inr (inr (inl (kind, codec, wav, schedule, most, units, asks, answers))))) =
+    absurd (not_route_and_sound words name format kind codec wav schedule most units routes asks)
 
 walk_of_words : (told : Option Files) (failed emptied unasked : List ℕ → Type 0) (gave : ℕ → Type 0) (words : List (List ℕ)) (codec name : List ℕ) (meant : Meant) → IsWalkOf words codec name
     → IsMeant told failed emptied unasked gave words meant → WalkAnswers told failed unasked codec name meant
@@ -210,29 +217,21 @@ walk_of_words told failed emptied unasked gave words codec name meant walks (inr
     subst (λ (n : List ℕ). WalkAnswers told failed unasked codec n meant) name_is (subst (λ (n : List ℕ). WalkAnswers told failed unasked n second meant) codec_is answers)
 walk_of_words told failed emptied unasked gave words codec name meant walks (inr (inr (inr (inr (number, asks, answers))))) =
     let bad : make number ≡ walk codec name = same_asked words _ _ asks walks in cc
-walk_of_words told failed emptied unasked gave words codec name meant walks (inr (inr (inr (inl (first, second, third, most, units, asks, answers))))) =
-    let bad : play first second third most units ≡ walk codec name = same_asked words _ _ asks walks in cc
+walk_of_words told failed emptied unasked gave words codec name meant walks (inr (inr (inr (inl (kind, first, second, third, most, units, asks, answers))))) =
+    no_sound kind first second third most units (walk codec name) refl (same_asked words _ _ asks walks)
 
--- what is answered to these words for a play
-abbrev PlayAnswersTo : Option Files → (failed emptied unasked : List ℕ → Type 0) → (gave : ℕ → Type 0) → Meant → Asked → Type 0
-PlayAnswersTo told failed emptied unasked gave meant (route codec rate bits channels) = ⊥
-PlayAnswersTo told failed emptied unasked gave meant (walk codec name) = ⊥
-PlayAnswersTo told failed emptied unasked gave meant (make number) = ⊥
-PlayAnswersTo told failed emptied unasked gave meant (play codec wav name periods period) = PlayAnswers told failed emptied unasked gave codec wav name periods period meant
-
-play_of_words : (told : Option Files) (failed emptied unasked : List ℕ → Type 0) (gave : ℕ → Type 0) (words : List (List ℕ)) (codec wav name : List ℕ) (periods period : ℕ) (meant : Meant)
-    → IsPlayOf words codec wav name periods period → IsMeant told failed emptied unasked gave words meant → PlayAnswers told failed emptied unasked gave codec wav name periods period meant
-play_of_words told failed emptied unasked gave words codec wav name periods period meant plays (inl refused) =
-    let bad : None ≡ Some (play codec wav name periods period) = sym refused.0 ∙ plays in cc
-play_of_words told failed emptied unasked gave words codec wav name periods period meant plays (inr (inl asked)) =
-    absurd (not_route_and_play words asked.0 asked.1 codec wav name periods period asked.2 plays)
-play_of_words told failed emptied unasked gave words codec wav name periods period meant plays (inr (inr (inl (first, second, asks, answers)))) =
-    let bad : walk first second ≡ play codec wav name periods period = same_asked words _ _ asks plays in cc
-play_of_words told failed emptied unasked gave words codec wav name periods period meant plays (inr (inr (inr (inr (number, asks, answers))))) =
-    let bad : make number ≡ play codec wav name periods period = same_asked words _ _ asks plays in cc
-play_of_words told failed emptied unasked gave words codec wav name periods period meant plays (inr (inr (inr (inl (first, second, third, most, units, asks, answers))))) =
-    let same : play first second third most units ≡ play codec wav name periods period = same_asked words _ _ asks plays in
-    subst (λ (a : Asked). PlayAnswersTo told failed emptied unasked gave meant a) same answers
+sound_of_words : (told : Option Files) (failed emptied unasked : List ℕ → Type 0) (gave : ℕ → Type 0) (words : List (List ℕ)) (kind : PinKind) (codec wav name : List ℕ) (periods period : ℕ) (meant : Meant)
+    → IsSoundOf kind words codec wav name periods period → IsMeant told failed emptied unasked gave words meant → PlayAnswers kind told failed emptied unasked gave codec wav name periods period meant
+sound_of_words told failed emptied unasked gave words kind codec wav name periods period meant plays (inl refused) =
+    let bad : None ≡ Some (sound_asked kind codec wav name periods period) = sym refused.0 ∙ plays in cc
+sound_of_words told failed emptied unasked gave words kind codec wav name periods period meant plays (inr (inl asked)) =
+    absurd (not_route_and_sound words asked.0 asked.1 kind codec wav name periods period asked.2 plays)
+sound_of_words told failed emptied unasked gave words kind codec wav name periods period meant plays (inr (inr (inl (first, second, asks, answers)))) =
+    no_sound kind codec wav name periods period (walk first second) refl (same_asked words _ _ plays asks)
+sound_of_words told failed emptied unasked gave words kind codec wav name periods period meant plays (inr (inr (inr (inr (number, asks, answers))))) =
+    no_sound kind codec wav name periods period (make number) refl (same_asked words _ _ plays asks)
+sound_of_words told failed emptied unasked gave words kind codec wav name periods period meant plays (inr (inr (inr (inl (other, first, second, third, most, units, asks, answers))))) =
+    same_sound (λ k c w n p q. PlayAnswers k told failed emptied unasked gave c w n p q meant) other kind first second third codec wav name most units periods period (same_asked words _ _ asks plays) answers
 
 -- ---- the end
 
@@ -260,16 +259,16 @@ module _ (before after : Option (List ℕ)) (sink_failed : Type 0) (given : Opti
         written_done answered.meant (route_meant told failed name format can answered.meant (route_of_words told failed emptied unasked gave words name format answered.meant routes answered.is)) answered.written
     route_complete words name format routes can (inr memory) = inr memory.0
 
-    pub files_complete : (codec wav name : List ℕ) (periods period : ℕ) → CanPlay told failed codec wav name periods period
-        → HasEndedPlay told failed emptied unasked gave codec wav name periods period before after sink_failed given status → HasPlayedOn status
-    files_complete codec wav name periods period can ended =
-        ended_run (PlayAnswers told failed emptied unasked gave codec wav name periods period) IsOfPlay (λ meant is. play_meant told failed emptied codec wav name periods period can meant unasked gave is) ended
+    pub files_complete : (kind : PinKind) (codec wav name : List ℕ) (periods period : ℕ) → CanPlay kind told failed codec wav name periods period
+        → HasEndedPlay kind told failed emptied unasked gave codec wav name periods period before after sink_failed given status → HasPlayedOn status
+    files_complete kind codec wav name periods period can ended =
+        ended_run (PlayAnswers kind told failed emptied unasked gave codec wav name periods period) IsOfPlay (λ meant is. play_meant kind told failed emptied codec wav name periods period can meant unasked gave is) ended
 
-    pub play_complete : (words : List (List ℕ)) (codec wav name : List ℕ) (periods period : ℕ) → IsPlayOf words codec wav name periods period
-        → CanPlay told failed codec wav name periods period → HasEnded told failed emptied unasked gave words before after sink_failed given status → HasPlayedOn status
-    play_complete words codec wav name periods period plays can ended =
+    pub sound_complete : (words : List (List ℕ)) (kind : PinKind) (codec wav name : List ℕ) (periods period : ℕ) → IsSoundOf kind words codec wav name periods period
+        → CanPlay kind told failed codec wav name periods period → HasEnded told failed emptied unasked gave words before after sink_failed given status → HasPlayedOn status
+    sound_complete words kind codec wav name periods period plays can ended =
         ended_run (IsMeant told failed emptied unasked gave words) IsOfPlay
-        (λ meant is. play_meant told failed emptied codec wav name periods period can meant unasked gave (play_of_words told failed emptied unasked gave words codec wav name periods period meant plays is)) ended
+        (λ meant is. play_meant kind told failed emptied codec wav name periods period can meant unasked gave (sound_of_words told failed emptied unasked gave words kind codec wav name periods period meant plays is)) ended
 
     pub walk_complete : (words : List (List ℕ)) (codec name : List ℕ) → IsWalkOf words codec name → CanWalk told failed codec name
         → HasEnded told failed emptied unasked gave words before after sink_failed given status → HasWalkedOn status
@@ -287,16 +286,16 @@ module _ (before after : Option (List ℕ)) (sink_failed : Type 0) (given : Opti
   given_run CanMean IsOf run (inr memory) = absurd (enough memory.0)
 
   module _ (told : Option Files) (failed emptied unasked : List ℕ → Type 0) (gave : ℕ → Type 0) where
-    pub files_given : (codec wav name : List ℕ) (periods period : ℕ) → CanPlay told failed codec wav name periods period
-        → HasEndedPlay told failed emptied unasked gave codec wav name periods period before after sink_failed given status → IsSome given
-    files_given codec wav name periods period can ended =
-        given_run (PlayAnswers told failed emptied unasked gave codec wav name periods period) IsOfPlay (λ meant is. play_meant told failed emptied codec wav name periods period can meant unasked gave is) ended
+    pub files_given : (kind : PinKind) (codec wav name : List ℕ) (periods period : ℕ) → CanPlay kind told failed codec wav name periods period
+        → HasEndedPlay kind told failed emptied unasked gave codec wav name periods period before after sink_failed given status → IsSome given
+    files_given kind codec wav name periods period can ended =
+        given_run (PlayAnswers kind told failed emptied unasked gave codec wav name periods period) IsOfPlay (λ meant is. play_meant kind told failed emptied codec wav name periods period can meant unasked gave is) ended
 
-    pub play_given : (words : List (List ℕ)) (codec wav name : List ℕ) (periods period : ℕ) → IsPlayOf words codec wav name periods period
-        → CanPlay told failed codec wav name periods period → HasEnded told failed emptied unasked gave words before after sink_failed given status → IsSome given
-    play_given words codec wav name periods period plays can ended =
+    pub sound_given : (words : List (List ℕ)) (kind : PinKind) (codec wav name : List ℕ) (periods period : ℕ) → IsSoundOf kind words codec wav name periods period
+        → CanPlay kind told failed codec wav name periods period → HasEnded told failed emptied unasked gave words before after sink_failed given status → IsSome given
+    sound_given words kind codec wav name periods period plays can ended =
         given_run (IsMeant told failed emptied unasked gave words) IsOfPlay
-        (λ meant is. play_meant told failed emptied codec wav name periods period can meant unasked gave (play_of_words told failed emptied unasked gave words codec wav name periods period meant plays is)) ended
+        (λ meant is. play_meant kind told failed emptied codec wav name periods period can meant unasked gave (sound_of_words told failed emptied unasked gave words kind codec wav name periods period meant plays is)) ended
 
     pub walk_given : (words : List (List ℕ)) (codec name : List ℕ) → IsWalkOf words codec name → CanWalk told failed codec name
         → HasEnded told failed emptied unasked gave words before after sink_failed given status → IsSome given

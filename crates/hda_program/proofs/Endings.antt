@@ -1,7 +1,9 @@
 -- What the statuses of the program come to, and when it gives a run.
-use Rattle.std.proofs.Common.{◌≡◌, ◌≢◌, ◌∙◌, ℕ, List, Bool, true, false, inl, inr, Option, Some, None, refl, sym, ap, subst, arith}
+use Rattle.std.proofs.Common.{◌≡◌, ◌≢◌, ◌∙◌, ℕ, List, [], ◌∷◌, Bool, true, false, inl, inr, Option, Some, None, refl, sym, ap, subst, arith}
 use Rattle.std.specs.Prelude.{◌⊎◌, ◌==◌, ◌||◌, if◌then◌else◌, IfSome, IsNone, IsSome, IsSomeAnd}
 use Rattle.std.specs.List.{Contains}
+use Rattle.route_planner.specs.declared.pin_kind.PinKind.{PinKind}
+use Rattle.route_planner.specs.declared.pin_kind.PinKind.TheVariants.{Analog}
 use Rattle.route_planner.specs.declared.routes.Plan.{Plan}
 use Rattle.hda_files.specs.declared.machine.Machine.{Machine}
 use Rattle.schedule_reader.specs.declared.schedule.Schedule.{Schedule}
@@ -10,7 +12,7 @@ use Rattle.wav_reader.specs.declared.opened.WavHead.{WavHead}
 use Rattle.stream_format.specs.declared.format.Format.{Format}
 use Rattle.hda_outside.specs.Shelf.{Files}
 use Rattle.stream_format.specs.Cadence.{hertz}
-use Rattle.program_words.specs.Asked.{Asked, bits_of, make, play, request_of, route, walk}
+use Rattle.program_words.specs.Asked.{Asked, bits_of, make, request_of, route, walk}
 use Rattle.sound_report.specs.declared.played.Played.{Played}
 use Rattle.sound_report.specs.declared.played.PlayFault.{PlayFault}
 use Rattle.sound_report.specs.declared.played.PlayFault.TheVariants as fault
@@ -21,13 +23,14 @@ use Rattle.sound_report.specs.declared.status.Status.TheVariants.{Done, WordsRef
 use Rattle.sound_report.specs.Statuses.{number_of}
 use Rattle.hda_program.specs.Answers.{HasEnded, HasEndedWith, HasWritten, IsMeant}
 use Rattle.program_runs.specs.Plays.{IsCutUnder, IsPlayedFrom}
-use Rattle.hda_program.specs.Asks.{IsNoCommand, IsPlayOf, IsRouteOf, IsWalkOf, Names, files_asked, files_of}
+use Rattle.hda_program.specs.Asks.{IsNoCommand, IsRouteOf, IsSoundOf, IsWalkOf, Names, files_asked}
 use Rattle.hda_program.specs.Files.{IsHeadIn}
-use Rattle.hda_program.specs.Causes.{HasBadCodecFile, HasBadRing, HasBadSchedule, HasBadWav, HasPlanned, NoRoute, SomeRoute, HasStoppedUnread, HasUnreadFile, IsFailedCut, IsOfSound, IsOfWalk, IsRunless, IsShortCut, OfItsWav, WasShortened, WasUnread}
+use Rattle.hda_program.specs.Causes.{HasBadCodecFile, HasBadRing, HasBadSchedule, HasBadWav, HasManyDigitalPins, HasPlanned, NoRoute, SomeRoute, HasStoppedUnread, HasUnreadFile, IsFailedCut, IsOfSound, IsOfWalk, IsRunless, IsShortCut, OfItsWav, WasShortened, WasUnread}
 use Rattle.hda_program.specs.PlayedFiles.{HasPlayedFiles}
 use Rattle.hda_program.specs.Promises.{HasRun, KeepsPromise}
 use Rattle.hda_program.specs.Made.{HasMadeRun, WantsMade}
 use Rattle.hda_program.specs.Meanings.{Meant, end_status, fault_status, run_meant, status_of, telling}
+use Rattle.hda_program.proofs.SoundWords.{no_sound, sound_files}
 use Rattle.hda_program.proofs.Cases.{Case, Cause as CauseOf, IsRouted, WordsCase, cases, ran, said}
 
 -- ---- numbers
@@ -134,33 +137,33 @@ made_number : {words : List (List ℕ)} {text : List ℕ} (played : Played) → 
 made_number played made n number either = no_walk_end played.fault n (sym (uncut_end played.cut played.fault made.run.uncut) ∙ number) either
 
 -- a sound of a told file does not get shorter
-never_cut : (files : Files) (name : List ℕ) (head : WavHead) (machine : Machine) (plans : List Plan) (geometry : Geometry) (schedule : Schedule) (played : Played)
-    → IsHeadIn files name head → IsPlayedFrom (Some files) name head machine plans geometry schedule played → (cut : Option CutLine) → played.cut ≡ cut → IsShortCut cut → ⊥
-never_cut files name head machine plans geometry schedule played h run None is short = short
-never_cut files name head machine plans geometry schedule played h run (Some (cuts.Failed text)) is short = short
-never_cut files name head machine plans geometry schedule played h run (Some (cuts.Short place)) is short =
+never_cut : (kind : PinKind) (files : Files) (name : List ℕ) (head : WavHead) (machine : Machine) (plans : List Plan) (geometry : Geometry) (schedule : Schedule) (played : Played)
+    → IsHeadIn files name head → IsPlayedFrom kind (Some files) name head machine plans geometry schedule played → (cut : Option CutLine) → played.cut ≡ cut → IsShortCut cut → ⊥
+never_cut kind files name head machine plans geometry schedule played h run None is short = short
+never_cut kind files name head machine plans geometry schedule played h run (Some (cuts.Failed text)) is short = short
+never_cut kind files name head machine plans geometry schedule played h run (Some (cuts.Short place)) is short =
     run.sound.never_short h.bytes (record { files = files; told_is = refl; file_is = h.file; head_is = h.says }) place is
 
-pub never_short : (files : Files) (name : List ℕ) (head : WavHead) (machine : Machine) (plans : List Plan) (geometry : Geometry) (schedule : Schedule) (played : Played)
-    → IsHeadIn files name head → IsPlayedFrom (Some files) name head machine plans geometry schedule played → IsShortCut played.cut → ⊥
-never_short files name head machine plans geometry schedule played h run short =
-    never_cut files name head machine plans geometry schedule played h run played.cut refl short
+pub never_short : (kind : PinKind) (files : Files) (name : List ℕ) (head : WavHead) (machine : Machine) (plans : List Plan) (geometry : Geometry) (schedule : Schedule) (played : Played)
+    → IsHeadIn files name head → IsPlayedFrom kind (Some files) name head machine plans geometry schedule played → IsShortCut played.cut → ⊥
+never_short kind files name head machine plans geometry schedule played h run short =
+    never_cut kind files name head machine plans geometry schedule played h run played.cut refl short
 
 module _ (failed emptied : List ℕ → Type 0) (gave : ℕ → Type 0) where
-  pub played_unread : {told : Option Files} {codec name : List ℕ} {periods period : ℕ} (wav : List ℕ) (played : Played) → HasPlayedFiles told failed emptied gave codec wav name periods period played
+  pub played_unread : {kind : PinKind} {told : Option Files} {codec name : List ℕ} {periods period : ℕ} (wav : List ℕ) (played : Played) → HasPlayedFiles kind told failed emptied gave codec wav name periods period played
       → number_of (status_of played) ≡ 3 → WasUnread failed wav played
   played_unread wav played run number =
       let cut = failed_cut wav run.head played.read (failed wav) (emptied wav) played.cut played.fault run.cut number in record { cut = cut.0; cause = cut.1 }
 
-  pub played_short : {told : Option Files} {codec name : List ℕ} {periods period : ℕ} (wav : List ℕ) (played : Played) → HasPlayedFiles told failed emptied gave codec wav name periods period played
+  pub played_short : {kind : PinKind} {told : Option Files} {codec name : List ℕ} {periods period : ℕ} (wav : List ℕ) (played : Played) → HasPlayedFiles kind told failed emptied gave codec wav name periods period played
       → number_of (status_of played) ≡ 14 → WasShortened emptied wav played
   played_short wav played run number =
       let cut = short_cut wav run.head played.read (failed wav) (emptied wav) played.cut played.fault run.cut number in record { cut = cut.0; cause = cut.1 }
 
-  pub told_never_short : (files : Files) {codec name : List ℕ} {periods period : ℕ} (wav : List ℕ) (played : Played) → HasPlayedFiles (Some files) failed emptied gave codec wav name periods period played
+  pub told_never_short : (kind : PinKind) (files : Files) {codec name : List ℕ} {periods period : ℕ} (wav : List ℕ) (played : Played) → HasPlayedFiles kind (Some files) failed emptied gave codec wav name periods period played
       → number_of (status_of played) ≡ 14 → ⊥
-  told_never_short files wav played run number =
-      never_short files wav run.head run.machine run.plans run.geometry run.schedule played run.wav_file.file run.run (played_short wav played run number).cut
+  told_never_short kind files wav played run number =
+      never_short kind files wav run.head run.machine run.plans run.geometry run.schedule played run.wav_file.file run.run (played_short wav played run number).cut
 
   -- a run of the words
   run_unread : {told : Option Files} {words : List (List ℕ)} (played : Played) (text : List ℕ) → HasRun told failed emptied gave words played text → number_of (status_of played) ≡ 3
@@ -169,6 +172,7 @@ module _ (failed emptied : List ℕ → Type 0) (gave : ℕ → Type 0) where
       absurd (no_walk_end played.fault 3 (sym (uncut_end played.cut played.fault walked.run.silent.uncut) ∙ number) (inl refl))
   run_unread played text (inr made) number = absurd (made_number played made 3 number (inl refl))
   run_unread played text (inl (inr sounded, is)) number = record {
+    kind = sounded.kind;
     codec_name = sounded.codec_name;
     wav_name = sounded.wav_name;
     schedule_name = sounded.schedule_name;
@@ -184,6 +188,7 @@ module _ (failed emptied : List ℕ → Type 0) (gave : ℕ → Type 0) where
       absurd (no_walk_end played.fault 14 (sym (uncut_end played.cut played.fault walked.run.silent.uncut) ∙ number) (inr refl))
   run_short played text (inr made) number = absurd (made_number played made 14 number (inr refl))
   run_short played text (inl (inr sounded, is)) number = record {
+    kind = sounded.kind;
     codec_name = sounded.codec_name;
     wav_name = sounded.wav_name;
     schedule_name = sounded.schedule_name;
@@ -197,7 +202,7 @@ module _ (failed emptied : List ℕ → Type 0) (gave : ℕ → Type 0) where
   run_told files played text (inl (inl walked, is)) number =
       no_walk_end played.fault 14 (sym (uncut_end played.cut played.fault walked.run.silent.uncut) ∙ number) (inr refl)
   run_told files played text (inr made) number = made_number played made 14 number (inr refl)
-  run_told files played text (inl (inr sounded, is)) number = told_never_short files sounded.wav_name played sounded.files number
+  run_told files played text (inl (inr sounded, is)) number = told_never_short sounded.kind files sounded.wav_name played sounded.files number
 
 -- ---- the words are those of one command
 
@@ -208,10 +213,10 @@ pub not_route_and_walk : (words : List (List ℕ)) (name : List ℕ) (format : F
 not_route_and_walk words name format codec schedule routes walks =
     let bad : route name (hertz format.rate) (bits_of format.bits) format.channels ≡ walk codec schedule = same_asked words _ _ routes walks in cc
 
-pub not_route_and_play : (words : List (List ℕ)) (name : List ℕ) (format : Format) (codec wav schedule : List ℕ) (periods period : ℕ) → IsRouteOf words name format
-    → IsPlayOf words codec wav schedule periods period → ⊥
-not_route_and_play words name format codec wav schedule periods period routes plays =
-    let bad : route name (hertz format.rate) (bits_of format.bits) format.channels ≡ play codec wav schedule periods period = same_asked words _ _ routes plays in cc
+pub not_route_and_sound : (words : List (List ℕ)) (name : List ℕ) (format : Format) (kind : PinKind) (codec wav schedule : List ℕ) (periods period : ℕ) → IsRouteOf words name format
+    → IsSoundOf kind words codec wav schedule periods period → ⊥
+not_route_and_sound words name format kind codec wav schedule periods period routes plays =
+    no_sound kind codec wav schedule periods period (route name (hertz format.rate) (bits_of format.bits) format.channels) refl (same_asked words _ _ plays routes)
 
 -- no route makes a run
 no_run_of_route : (told : Option Files) (failed emptied : List ℕ → Type 0) (gave : ℕ → Type 0) (words : List (List ℕ)) (name : List ℕ) (format : Format) (played : Played) (text : List ℕ) → IsRouteOf words name format → HasRun told failed emptied gave words played text → ⊥
@@ -219,14 +224,14 @@ no_run_of_route told failed emptied gave words name format played text routes (i
 no_run_of_route told failed emptied gave words name format played text routes (inr made) =
     let bad : route name (hertz format.rate) (bits_of format.bits) format.channels ≡ make made.number = same_asked words _ _ routes made.asks in cc
 no_run_of_route told failed emptied gave words name format played text routes (inl (inr sounded, is)) =
-    not_route_and_play words name format sounded.codec_name sounded.wav_name sounded.schedule_name sounded.periods sounded.period routes sounded.asks
+    not_route_and_sound words name format sounded.kind sounded.codec_name sounded.wav_name sounded.schedule_name sounded.periods sounded.period routes sounded.asks
 
 -- the words name their WAV file
-named : (words : List (List ℕ)) (codec wav name : List ℕ) (periods period : ℕ) → IsPlayOf words codec wav name periods period → Names words wav
-named words codec wav name periods period is =
-    let P : Option Asked → Type 0 = λ asks. Contains (files_asked asks) wav in
-    let among : Contains (files_of (play codec wav name periods period)) wav = (1, omega arith, refl) in
-    subst P (sym is) among
+named : (words : List (List ℕ)) (kind : PinKind) (codec wav name : List ℕ) (periods period : ℕ) → IsSoundOf kind words codec wav name periods period → Names words wav
+named words kind codec wav name periods period is =
+    let files_are : files_asked (request_of words) ≡ codec ∷ wav ∷ name ∷ [] = ap files_asked is ∙ sound_files kind codec wav name periods period in
+    let among : Contains (codec ∷ wav ∷ name ∷ []) wav = (1, omega arith, refl) in
+    subst (λ (names : List (List ℕ)). Contains names wav) (sym files_are) among
 
 -- ---- the causes
 
@@ -234,16 +239,19 @@ named words codec wav name periods period is =
 was_planned : {told : Option Files} {failed emptied : List ℕ → Type 0} {gave : ℕ → Type 0} {words : List (List ℕ)} {played : Played} {text : List ℕ} → HasRun told failed emptied gave words played text → HasPlanned told words SomeRoute ⊎ WantsMade words
 was_planned (inr made) = inr (made.number, made.asks)
 was_planned (inl (inl walked, is)) = inl (record {
+  kind = Analog;
   codec_name = walked.codec_name;
   format = _;
   machine = walked.machine;
   plans = walked.plans;
-  wants = inr (inl (walked.schedule_name, walked.asks, refl));
+  wants = inr (inl (walked.schedule_name, refl, walked.asks, refl));
   codec_file = walked.codec_file;
+  pins = tt;
   planned = walked.planned;
   routed = walked.routed;
 })
 was_planned (inl (inr sounded, is)) = inl (record {
+  kind = sounded.kind;
   codec_name = sounded.codec_name;
   format = sounded.files.head.format;
   machine = sounded.files.machine;
@@ -255,6 +263,7 @@ was_planned (inl (inr sounded, is)) = inl (record {
     refl,
   ));
   codec_file = sounded.files.codec_file;
+  pins = sounded.files.pins;
   planned = sounded.files.planned;
   routed = sounded.files.routed;
 })
@@ -434,7 +443,7 @@ module _ (told : Option Files) (failed emptied unasked : List ℕ → Type 0) (g
       let both : CauseHere ShelfFailed = said_cause CauseHere RunHere 3 meant of text e number cause in both.0
   unread_name meant (ran played text run e) number =
       let of = run_unread failed emptied gave played text run (sym (number_run meant played text e) ∙ number) in
-      (of.wav_name, named words of.codec_name of.wav_name of.schedule_name of.periods of.period of.asks, of.cut.cause)
+      (of.wav_name, named words of.kind of.codec_name of.wav_name of.schedule_name of.periods of.period of.asks, of.cut.cause)
 
   pub shelf_failed : HasEnded told failed emptied unasked gave words before after sink_failed play status → status ≡ 3 → HasUnreadFile failed words
   shelf_failed ended is =
@@ -461,7 +470,7 @@ module _ (told : Option Files) (failed emptied unasked : List ℕ → Type 0) (g
       shrunk_at CauseHere RunHere before after sink_failed play status (λ played. OfItsWav (λ wav. WasShortened emptied wav played) words)
       (λ played text run number. run_short failed emptied gave played text run number) (λ none. none) (by_words ended) is
 
-  pub refused_codec : HasEnded told failed emptied unasked gave words before after sink_failed play status → status ≡ 5 → HasBadCodecFile told words
+  pub refused_codec : HasEnded told failed emptied unasked gave words before after sink_failed play status → status ≡ 5 → HasBadCodecFile told words ⊎ HasManyDigitalPins told words
   refused_codec = cause_of 5 refl (λ e. absurd (omega (arith, e))) (λ e. absurd (omega (arith, e)))
 
   pub refused_wav : HasEnded told failed emptied unasked gave words before after sink_failed play status → status ≡ 6 → HasBadWav told words
@@ -494,17 +503,17 @@ module _ (told : Option Files) (failed emptied unasked : List ℕ → Type 0) (g
   route_runless ended name format routes =
       none_meant CauseHere RunHere before after sink_failed play status (λ played text run. no_run_of_route told failed emptied gave words name format played text routes run) (by_words ended)
 
-  -- `walk` and `play` give their run at the statuses of a run, since nothing else is meant with them by their words
+  -- `walk`, `play` and `spdif` give their run at the statuses of a run, since nothing else is meant with them by their words
   runs : HasEnded told failed emptied unasked gave words before after sink_failed play status → (IsRouted told words → ⊥) → IsOfSound status → IsSome play
   runs ended unrouted is = some_at CauseHere RunHere before after sink_failed play status unrouted (λ none. none) (λ none. none) (λ none. none) (λ none. none) (by_words ended) is
 
   pub walk_runs : HasEnded told failed emptied unasked gave words before after sink_failed play status → (codec name : List ℕ) → IsWalkOf words codec name → IsOfWalk status → IsSome play
   walk_runs ended codec name walks is = runs ended (λ routed. not_route_and_walk words routed.0 routed.1 codec name routed.2 walks) (inl (inl is))
 
-  pub play_runs : HasEnded told failed emptied unasked gave words before after sink_failed play status → (codec wav name : List ℕ) (periods period : ℕ) → IsPlayOf words codec wav name periods period
+  pub sound_runs : HasEnded told failed emptied unasked gave words before after sink_failed play status → (kind : PinKind) (codec wav name : List ℕ) (periods period : ℕ) → IsSoundOf kind words codec wav name periods period
       → IsOfSound status → IsSome play
-  play_runs ended codec wav name periods period plays is =
-      runs ended (λ routed. not_route_and_play words routed.0 routed.1 codec wav name periods period routed.2 plays) is
+  sound_runs ended kind codec wav name periods period plays is =
+      runs ended (λ routed. not_route_and_sound words routed.0 routed.1 kind codec wav name periods period routed.2 plays) is
 
 -- where the files are told no WAV file gets shorter
 module _ (failed emptied unasked : List ℕ → Type 0) (gave : ℕ → Type 0) (words : List (List ℕ)) (before after : Option (List ℕ)) (sink_failed : Type 0) (play : Option Played) (status : ℕ) where

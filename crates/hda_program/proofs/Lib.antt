@@ -1,4 +1,6 @@
 mod ReadLemmas
+mod SoundWords
+mod PinLemmas
 mod WriteLemmas
 mod WalkLemmas
 mod PlayLemmas

@@ -2,15 +2,18 @@
 use Rattle.std.proofs.Common.{◌≡◌, ◌∙◌, ℕ, List, Bool, true, false, inl, inr, Option, Some, None, refl, sym, ap, subst}
 use Rattle.std.proofs.lemmas.Bool.{false≢true}
 use Rattle.std.specs.Prelude.{IsSome}
+use Rattle.route_planner.specs.declared.pin_kind.PinKind.{PinKind}
+use Rattle.route_planner.specs.declared.pin_kind.PinKind.TheVariants.{Analog, Digital}
 use Rattle.hda_outside.specs.Shelf.{Files}
 use Rattle.stream_format.specs.Cadence.{hertz}
-use Rattle.program_words.specs.Asked.{Asked, bits_of, make, play, request_of, route, walk}
+use Rattle.program_words.specs.Asked.{Asked, bits_of, make, play, request_of, route, spdif, walk}
 use Rattle.sound_report.specs.declared.played.Played.{Played}
 use Rattle.sound_report.specs.declared.played.PlayFault.{PlayFault}
 use Rattle.sound_report.specs.declared.played.CutLine.{CutLine}
 use Rattle.sound_report.specs.declared.status.Status.TheVariants.{Done, OutOfMemory}
 use Rattle.sound_report.specs.Statuses.{number_of}
 use Rattle.hda_program.specs.Answers.{HasEnded, HasWritten, IsMeant}
+use Rattle.hda_program.specs.Asks.{sound_asked}
 use Rattle.hda_program.specs.Made.{IsMakeOf, IsOfMade, MakeAnswers}
 use Rattle.hda_program.specs.Meanings.{Meant, end_status}
 use Rattle.hda_program.proofs.Endings.{same_asked}
@@ -21,6 +24,7 @@ MakeAnswersTo meant (route codec rate bits channels) = ⊥
 MakeAnswersTo meant (walk codec name) = ⊥
 MakeAnswersTo meant (play codec wav name periods period) = ⊥
 MakeAnswersTo meant (make number) = MakeAnswers number meant
+MakeAnswersTo meant (spdif codec wav name periods period) = ⊥
 
 -- words that ask for made inputs ask for nothing else
 abbrev is_make : Asked → Bool
@@ -28,6 +32,11 @@ is_make (route codec rate bits channels) = false
 is_make (walk codec name) = false
 is_make (play codec wav name periods period) = false
 is_make (make number) = true
+is_make (spdif codec wav name periods period) = false
+
+made_no_sound : (kind : PinKind) (codec wav name : List ℕ) (periods period : ℕ) → is_make (sound_asked kind codec wav name periods period) ≡ false
+made_no_sound Analog codec wav name periods period = refl
+made_no_sound Digital codec wav name periods period = refl
 
 other_words : (words : List (List ℕ)) (asked : Asked) (number : ℕ) → request_of words ≡ Some asked → IsMakeOf words number → is_make asked ≡ true
 other_words words asked number asks makes = ap is_make (same_asked words asked (make number) asks makes)
@@ -45,7 +54,7 @@ make_of_words told failed emptied unasked gave words number meant makes (inr (in
     absurd (false≢true (other_words words (route asked.0 (hertz asked.1.rate) (bits_of asked.1.bits) asked.1.channels) number asked.2 makes))
 make_of_words told failed emptied unasked gave words number meant makes (inr (inr (inl asked))) = absurd (false≢true (other_words words (walk asked.0 asked.1) number asked.2 makes))
 make_of_words told failed emptied unasked gave words number meant makes (inr (inr (inr (inl asked)))) =
-    absurd (false≢true (other_words words (play asked.0 asked.1 asked.2 asked.3 asked.4) number asked.5 makes))
+    absurd (false≢true (sym (made_no_sound asked.0 asked.1 asked.2 asked.3 asked.4 asked.5) ∙ other_words words (sound_asked asked.0 asked.1 asked.2 asked.3 asked.4 asked.5) number asked.6 makes))
 make_of_words told failed emptied unasked gave words number meant makes (inr (inr (inr (inr asked)))) = made_same words asked.0 number meant asked.1 makes asked.2
 
 -- its status is that of a run that is done

@@ -16,7 +16,8 @@ use Rattle.route_planner.specs.Plans.{IsOutcome, IsPlan}
 use Rattle.driver_agenda.specs.Planned.{is_route}
 use Rattle.codec_walk.specs.Commands.{walk_commands}
 use Rattle.setup_verbs.specs.Roles.{role_of}
-use Rattle.setup_verbs.specs.VerbList.{setup_verbs, setup_verbs_as, to_all}
+use Rattle.setup_verbs.specs.VerbList.{setup_verbs_as, to_all}
+use Rattle.route_planner.specs.declared.pin_kind.PinKind.TheVariants.{Analog}
 use Rattle.laws_start.specs.Tasks.{HavePlans}
 use Rattle.program_runs.specs.Histories.{command_total}
 use Rattle.made_inputs.specs.MadeMachine.{made_codec, made_machine}
@@ -121,13 +122,13 @@ pins_are (entry ∷ other ∷ entries) plan =
 
 -- ---- so many commands
 
-count_with : (pair : ℕ) → command_total made_format made_machine (record { pins = entry_with pair ∷ [] } ∷ []) ≡ 44
+count_with : (pair : ℕ) → command_total Analog made_format made_machine (record { pins = entry_with pair ∷ [] } ∷ []) ≡ 44
 unfolding walk_commands role_of setup_verbs_as to_all
 count_with pair = refl
 
-pub commands_are : (plans : List Plan) → HavePlans made_format made_machine.codecs plans → command_total made_format made_machine plans ≡ 44
+pub commands_are : (plans : List Plan) → HavePlans made_format made_machine.codecs plans → command_total Analog made_format made_machine plans ≡ 44
 commands_are [] have = absurd have
 commands_are (plan ∷ []) have =
     let pins = pins_are plan.pins have.0 in
-    ap (λ (pins : List PinPlan). command_total made_format made_machine (record { pins = pins } ∷ [])) pins.1 ∙ count_with pins.0
+    ap (λ (pins : List PinPlan). command_total Analog made_format made_machine (record { pins = pins } ∷ [])) pins.1 ∙ count_with pins.0
 commands_are (plan ∷ other ∷ plans) have = absurd have.1

@@ -16,6 +16,7 @@ use Rattle.period_writer.specs.declared.geometry.Geometry.{Geometry}
 use Rattle.period_writer.specs.Rings.{ring_bytes, limit_of}
 use Rattle.period_writer.specs.Runs.{measures}
 use Rattle.laws_start.specs.Reading.{IsWhole}
+use Rattle.route_planner.specs.declared.pin_kind.PinKind.TheVariants.{Analog}
 use Rattle.laws_start.specs.Tasks.{HavePlans}
 use Rattle.sound_report.specs.declared.played.Played.{Played}
 use Rattle.program_runs.specs.Histories.{command_total}
@@ -41,7 +42,7 @@ use Rattle.hda_program.proofs.MadeHoles.{none_counted}
 abbrev pub ByTurnsLaw : Type 0
 ByTurnsLaw =
     (machine : Machine) (plans : List Plan) (wav : Wav) (geometry : Geometry) (schedule : Schedule) (played : Played) (frames : ℕ) (lengths : List ℕ) → IsSound machine → IsWhole machine → HavePlans wav.format machine.codecs plans → IsLimited schedule
-    → ServesPlay wav.format machine plans geometry schedule → IsPlayed machine plans wav geometry schedule played → geometry.format.rate ≡ R48 → length wav.pcm ≡ frames * block_bytes geometry.format
+    → ServesPlay Analog wav.format machine plans geometry schedule → IsPlayed Analog machine plans wav geometry schedule played → geometry.format.rate ≡ R48 → length wav.pcm ≡ frames * block_bytes geometry.format
     → PlaysTurns wav.format machine plans geometry lengths schedule → EndsInTheLast frames lengths → PlaysByTurns (measures geometry).ring (measures geometry).block frames lengths played
 
 abbrev pub InTimeLaw : Type 0
@@ -81,18 +82,18 @@ module _ (number : ℕ) (played : Played) (is : IsMadeRun number played) where
       let base = plays_in_turns 12288 number count (omega arith) in
       let one = subst (λ (schedule : Schedule). PlaysInTurns 44 12288 4 192 lengths (all_rounds schedule).rounds) (sym is.made.is) base in
       let two = subst (λ (commands : ℕ). PlaysInTurns commands 12288 4 192 lengths (all_rounds is.schedule).rounds) (sym (commands_are is.plans is.planned)) one in
-      let three = subst (λ (ring : ℕ). PlaysInTurns (command_total made_format made_machine is.plans) ring 4 192 lengths (all_rounds is.schedule).rounds) (sym (ring_is is.geometry is.ring)) two in
-      subst (λ (block : ℕ). PlaysInTurns (command_total made_format made_machine is.plans) (measures is.geometry).ring block 192 lengths (all_rounds is.schedule).rounds) (sym (block_is is.geometry is.ring)) three
+      let three = subst (λ (ring : ℕ). PlaysInTurns (command_total Analog made_format made_machine is.plans) ring 4 192 lengths (all_rounds is.schedule).rounds) (sym (ring_is is.geometry is.ring)) two in
+      subst (λ (block : ℕ). PlaysInTurns (command_total Analog made_format made_machine is.plans) (measures is.geometry).ring block 192 lengths (all_rounds is.schedule).rounds) (sym (block_is is.geometry is.ring)) three
 
-  commands_served : ServesCommands (0 ∷ []) (command_total made_format made_machine is.plans) (all_rounds is.schedule)
+  commands_served : ServesCommands (0 ∷ []) (command_total Analog made_format made_machine is.plans) (all_rounds is.schedule)
   commands_served =
       subst (λ (commands : ℕ). ServesCommands (0 ∷ []) commands (all_rounds is.schedule)) (sym (commands_are is.plans is.planned))
       (subst (λ (schedule : Schedule). ServesCommands (0 ∷ []) 44 (all_rounds schedule)) (sym is.made.is) (serves number count))
 
-  all_serves : InTimeLaw → ServesPlay made_format made_machine is.plans is.geometry is.schedule
+  all_serves : InTimeLaw → ServesPlay Analog made_format made_machine is.plans is.geometry is.schedule
   all_serves law = record {
     commands = commands_served;
-    sound = law (command_total made_format made_machine is.plans) (measures is.geometry).ring (measures is.geometry).block 192 (measures is.geometry).limit (measures is.geometry).slack lengths (all_rounds is.schedule).rounds in_turns
+    sound = law (command_total Analog made_format made_machine is.plans) (measures is.geometry).ring (measures is.geometry).block 192 (measures is.geometry).limit (measures is.geometry).slack lengths (all_rounds is.schedule).rounds in_turns
         (within (measures is.geometry).limit (limit_is is.geometry is.ring) lengths (all_short number count));
   }
 

@@ -2,7 +2,7 @@
 use Rattle.std.proofs.Common.{◌≡◌, ◌≢◌, ◌∙◌, ℕ, List, [], ◌∷◌, inl, inr, Some, Ok, Err, refl, sym, ap, subst, length, arith}
 use Rattle.stream_format.specs.declared.format.Format.{Format}
 use Rattle.stream_format.specs.Layouts.{layout}
-use Rattle.route_planner.specs.declared.pin_kind.PinKind.TheVariants.{Analog}
+use Rattle.route_planner.specs.declared.pin_kind.PinKind.{PinKind}
 use Rattle.route_planner.specs.declared.routes.Plan.{Plan}
 use Rattle.route_planner.proofs.Callers.{only_plan}
 use Rattle.hda_outside.specs.Shelf.{Files, file_of}
@@ -19,7 +19,7 @@ use Rattle.schedule_reader.specs.Schedules.{schedule_of}
 use Rattle.wav_reader.specs.declared.opened.WavHead.{WavHead}
 use Rattle.wav_reader.specs.Heads.{Head, head_of}
 use Rattle.wav_reader.specs.Opening.{head_in_file, most_wav_bytes}
-use Rattle.laws_start.specs.Tasks.{HavePlans}
+use Rattle.program_runs.specs.Outputs.{HavePlansOf}
 use Rattle.hda_program.specs.Files.{IsCodecRefused, IsHeadIn, IsLonger, IsMachineOf, IsScheduleOf, IsScheduleRefused, IsShortFile, IsWavRefused, most_codec_bytes, most_schedule_bytes}
 
 -- ---- bytes
@@ -104,12 +104,12 @@ one_schedule files name one other h k =
 
 -- ---- plans
 
-pub one_plans : (format : Format) (codecs : List CodecFile) (one other : List Plan) → HavePlans format codecs one → HavePlans format codecs other → other ≡ one
-one_plans format [] [] [] h k = refl
-one_plans format [] [] (plan ∷ others) h k = absurd k
-one_plans format [] (plan ∷ ones) other h k = absurd h
-one_plans format (file ∷ codecs) [] other h k = absurd h
-one_plans format (file ∷ codecs) (plan ∷ ones) [] h k = absurd k
-one_plans format (file ∷ codecs) (plan ∷ ones) (twin ∷ others) h k =
-    let first : twin ≡ plan = only_plan Analog file.graph format plan h.0 twin k.0 in
-    let rest : others ≡ ones = one_plans format codecs ones others h.1 k.1 in cc
+pub one_plans : (kind : PinKind) (format : Format) (codecs : List CodecFile) (one other : List Plan) → HavePlansOf kind format codecs one → HavePlansOf kind format codecs other → other ≡ one
+one_plans kind format [] [] [] h k = refl
+one_plans kind format [] [] (plan ∷ others) h k = absurd k
+one_plans kind format [] (plan ∷ ones) other h k = absurd h
+one_plans kind format (file ∷ codecs) [] other h k = absurd h
+one_plans kind format (file ∷ codecs) (plan ∷ ones) [] h k = absurd k
+one_plans kind format (file ∷ codecs) (plan ∷ ones) (twin ∷ others) h k =
+    let first : twin ≡ plan = only_plan kind file.graph format plan h.0 twin k.0 in
+    let rest : others ≡ ones = one_plans kind format codecs ones others h.1 k.1 in cc

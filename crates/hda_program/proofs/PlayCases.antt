@@ -1,9 +1,10 @@
--- The ways in which something is meant by `play` of three files.
+-- The ways in which something is meant by a sound of three files.
 use Rattle.std.proofs.Common.{ℕ, List, [], ◌∷◌, inl, inr, Option, refl, arith}
+use Rattle.route_planner.specs.declared.pin_kind.PinKind.{PinKind}
 use Rattle.hda_outside.specs.Shelf.{Files}
 use Rattle.sound_report.specs.declared.status.Status.{Status}
 use Rattle.sound_report.specs.declared.status.Status.TheVariants.{Done, WordsRefused, ShelfFailed, SinkFailed, CodecRefused, WavRefused, ScheduleRefused, NothingRouted, Unanswered, Late, ScheduleEnded, OutOfMemory, GeometryRefused, WavShrank}
-use Rattle.hda_program.specs.Answers.{PlayAnswers, AtCodec, AtWav, AtSchedule, AtRing, AtPlans, AtRun}
+use Rattle.hda_program.specs.Answers.{PlayAnswers, AtCodec, AtPins, AtWav, AtSchedule, AtRing, AtPlans, AtRun}
 use Rattle.hda_program.specs.Causes.{HasStoppedUnread}
 use Rattle.hda_program.specs.PlayedFiles.{HasPlayedFiles}
 use Rattle.hda_program.specs.Promises.{IsReported}
@@ -32,11 +33,11 @@ IsRefusal Unread WavShrank = ⊥
 abbrev pub UnreadOf : (failed unasked : List ℕ → Type 0) → (codec wav name : List ℕ) → Type 0
 UnreadOf failed unasked codec wav name = HasStoppedUnread failed unasked (codec ∷ wav ∷ name ∷ [])
 
-module _ (told : Option Files) (failed emptied unasked : List ℕ → Type 0) (gave : ℕ → Type 0) (codec wav name : List ℕ) (periods period : ℕ) (meant : Meant) where
+module _ (kind : PinKind) (told : Option Files) (failed emptied unasked : List ℕ → Type 0) (gave : ℕ → Type 0) (codec wav name : List ℕ) (periods period : ℕ) (meant : Meant) where
   abbrev PlayCase : Type 0
-  PlayCase = Case (IsRefusal (UnreadOf failed unasked codec wav name)) (IsReported (HasPlayedFiles told failed emptied gave codec wav name periods period)) meant
+  PlayCase = Case (IsRefusal (UnreadOf failed unasked codec wav name)) (IsReported (HasPlayedFiles kind told failed emptied gave codec wav name periods period)) meant
 
-  pub play_cases : PlayAnswers told failed emptied unasked gave codec wav name periods period meant → PlayCase
+  pub play_cases : PlayAnswers kind told failed emptied unasked gave codec wav name periods period meant → PlayCase
   play_cases (AtCodec (inl stop) alone) =
       said ShelfFailed (record {
         before = [];
@@ -47,7 +48,8 @@ module _ (told : Option Files) (failed emptied unasked : List ℕ → Type 0) (g
         stopped = λ other within apart. alone other (other_one codec other apart);
       }) _ stop.1
   play_cases (AtCodec (inr stop) alone) = said CodecRefused tt _ stop.2
-  play_cases (AtWav machine file (inl stop) alone) =
+  play_cases (AtPins machine file stop alone) = said CodecRefused tt _ stop.1
+  play_cases (AtWav machine file pins (inl stop) alone) =
       said ShelfFailed (record {
         before = codec ∷ [];
         name = wav;
@@ -56,8 +58,8 @@ module _ (told : Option Files) (failed emptied unasked : List ℕ → Type 0) (g
         unread = stop.0;
         stopped = λ other within apart. alone other (other_second codec wav other apart) (other_first codec wav other apart);
       }) _ stop.1
-  play_cases (AtWav machine file (inr stop) alone) = said WavRefused tt _ stop.2
-  play_cases (AtSchedule machine head file wav_file (inl stop)) =
+  play_cases (AtWav machine file pins (inr stop) alone) = said WavRefused tt _ stop.2
+  play_cases (AtSchedule machine head file pins wav_file (inl stop)) =
       said ShelfFailed (record {
         before = codec ∷ wav ∷ [];
         name = name;
@@ -66,7 +68,7 @@ module _ (told : Option Files) (failed emptied unasked : List ℕ → Type 0) (g
         unread = stop.0;
         stopped = λ other within apart. absurd (omega (arith, within.1));
       }) _ stop.1
-  play_cases (AtSchedule machine head file wav_file (inr stop)) = said ScheduleRefused tt _ stop.2
-  play_cases (AtRing machine head schedule file wav_file steps stop) = said GeometryRefused tt _ stop.2
-  play_cases (AtPlans machine head schedule geometry plans file wav_file steps ring planned none is) = said NothingRouted tt _ is
+  play_cases (AtSchedule machine head file pins wav_file (inr stop)) = said ScheduleRefused tt _ stop.2
+  play_cases (AtRing machine head schedule file pins wav_file steps stop) = said GeometryRefused tt _ stop.2
+  play_cases (AtPlans machine head schedule geometry plans file pins wav_file steps ring planned none is) = said NothingRouted tt _ is
   play_cases (AtRun played files is) = ran played _ (files, refl) is

@@ -1,6 +1,7 @@
--- When `play` of three files gives a run, and which.
+-- When a sound of three files gives a run, and which.
 use Rattle.std.proofs.Common.{◌≡◌, ◌≢◌, ℕ, List, Option, Some, None, arith}
 use Rattle.std.specs.Prelude.{IfSome, IsNone, IsSome, IsSomeAnd}
+use Rattle.route_planner.specs.declared.pin_kind.PinKind.{PinKind}
 use Rattle.hda_outside.specs.Shelf.{Files}
 use Rattle.sound_report.specs.declared.played.Played.{Played}
 use Rattle.sound_report.specs.declared.status.Status.{Status}
@@ -12,21 +13,21 @@ use Rattle.hda_program.proofs.Cases.{Case}
 use Rattle.hda_program.proofs.Endings.{by_cases, never_shrunk, none_at, of_run_at, played_short, played_unread, promise_kept, said_at, shrunk_at, some_at, told_never_short}
 use Rattle.hda_program.proofs.PlayCases.{IsRefusal, UnreadOf, play_cases}
 
-module _ (told : Option Files) (failed emptied unasked : List ℕ → Type 0) (gave : ℕ → Type 0) (codec wav name : List ℕ) (periods period : ℕ) (before after : Option (List ℕ)) (sink_failed : Type 0) (play : Option Played) (status : ℕ) where
+module _ (kind : PinKind) (told : Option Files) (failed emptied unasked : List ℕ → Type 0) (gave : ℕ → Type 0) (codec wav name : List ℕ) (periods period : ℕ) (before after : Option (List ℕ)) (sink_failed : Type 0) (play : Option Played) (status : ℕ) where
   abbrev Run : Played → List ℕ → Type 0
-  Run = IsReported (HasPlayedFiles told failed emptied gave codec wav name periods period)
+  Run = IsReported (HasPlayedFiles kind told failed emptied gave codec wav name periods period)
 
   abbrev Refused : Status → Type 0
   Refused = IsRefusal (UnreadOf failed unasked codec wav name)
 
   abbrev HasEndedHere : Type 0
-  HasEndedHere = HasEndedPlay told failed emptied unasked gave codec wav name periods period before after sink_failed play status
+  HasEndedHere = HasEndedPlay kind told failed emptied unasked gave codec wav name periods period before after sink_failed play status
 
   by_files : HasEndedHere → HasEndedWith (Case Refused Run) before after sink_failed play status
   by_files ended =
-      by_cases (PlayAnswers told failed emptied unasked gave codec wav name periods period) (Case Refused Run) before after sink_failed play status (play_cases told failed emptied unasked gave codec wav name periods period) ended
+      by_cases (PlayAnswers kind told failed emptied unasked gave codec wav name periods period) (Case Refused Run) before after sink_failed play status (play_cases kind told failed emptied unasked gave codec wav name periods period) ended
 
-  pub files_promised : HasEndedHere → IfSome play (KeepsPromise (IsReported (HasPlayedFiles told failed emptied gave codec wav name periods period)) before after sink_failed status)
+  pub files_promised : HasEndedHere → IfSome play (KeepsPromise (IsReported (HasPlayedFiles kind told failed emptied gave codec wav name periods period)) before after sink_failed status)
   files_promised ended = promise_kept Refused Run before after sink_failed play status (by_files ended)
 
   pub files_runless : HasEndedHere → IsRunless status → IsNone play
@@ -47,13 +48,13 @@ module _ (told : Option Files) (failed emptied unasked : List ℕ → Type 0) (g
   files_shrunk ended is =
       shrunk_at Refused Run before after sink_failed play status (WasShortened emptied wav) (λ played text run number. played_short failed emptied gave wav played run.0 number) (λ none. none) (by_files ended) is
 
-module _ (failed emptied unasked : List ℕ → Type 0) (gave : ℕ → Type 0) (codec wav name : List ℕ) (periods period : ℕ) (before after : Option (List ℕ)) (sink_failed : Type 0) (play : Option Played) (status : ℕ) where
-  never_told : (files : Files) → HasEndedPlay (Some files) failed emptied unasked gave codec wav name periods period before after sink_failed play status → status ≡ 14 → ⊥
+module _ (kind : PinKind) (failed emptied unasked : List ℕ → Type 0) (gave : ℕ → Type 0) (codec wav name : List ℕ) (periods period : ℕ) (before after : Option (List ℕ)) (sink_failed : Type 0) (play : Option Played) (status : ℕ) where
+  never_told : (files : Files) → HasEndedPlay kind (Some files) failed emptied unasked gave codec wav name periods period before after sink_failed play status → status ≡ 14 → ⊥
   never_told files ended is =
-      never_shrunk (Refused (Some files) failed emptied unasked gave codec wav name periods period before after sink_failed play status) (Run (Some files) failed emptied unasked gave codec wav name periods period before after sink_failed play status) before after sink_failed play status
-      (λ played text run number. told_never_short failed emptied gave files wav played run.0 number) (λ none. none)
-      (by_files (Some files) failed emptied unasked gave codec wav name periods period before after sink_failed play status ended) is
+      never_shrunk (Refused kind (Some files) failed emptied unasked gave codec wav name periods period before after sink_failed play status) (Run kind (Some files) failed emptied unasked gave codec wav name periods period before after sink_failed play status) before after sink_failed play status
+      (λ played text run number. told_never_short failed emptied gave kind files wav played run.0 number) (λ none. none)
+      (by_files kind (Some files) failed emptied unasked gave codec wav name periods period before after sink_failed play status ended) is
 
-  pub files_never_shrink : (told : Option Files) → HasEndedPlay told failed emptied unasked gave codec wav name periods period before after sink_failed play status → IfSome told (λ files. status ≢ 14)
+  pub files_never_shrink : (told : Option Files) → HasEndedPlay kind told failed emptied unasked gave codec wav name periods period before after sink_failed play status → IfSome told (λ files. status ≢ 14)
   files_never_shrink None ended = tt
   files_never_shrink (Some files) ended = never_told files ended

@@ -3,6 +3,8 @@ use Rattle.std.proofs.Common.{◌≡◌, ◌≤◌, ◌*◌, ◌∙◌, ℕ, Lis
 use Rattle.std.specs.Prelude.{◌⊎◌, IfSome, IsNone, IsSome}
 use Rattle.stream_format.specs.declared.format.Format.{Format}
 use Rattle.stream_format.specs.Cadence.{block_bytes}
+use Rattle.route_planner.specs.declared.pin_kind.PinKind.{PinKind}
+use Rattle.route_planner.specs.declared.pin_kind.PinKind.TheVariants.{Analog}
 use Rattle.route_planner.specs.declared.routes.Plan.{Plan}
 use Rattle.hda_outside.specs.Shelf.{Files}
 use Rattle.hda_files.specs.declared.machine.Machine.{Machine}
@@ -14,7 +16,7 @@ use Rattle.schedule_reader.specs.Counts.{steps_of, frames_of}
 use Rattle.schedule_reader.specs.Faults.{first_fault}
 use Rattle.schedule_reader.specs.Parts.{parts}
 use Rattle.schedule_reader.specs.Schedules.{IsLimited, judged, limited, most_frames, most_steps, rows, schedule_of}
-use Rattle.program_words.specs.Asked.{Asked, walk, play, make}
+use Rattle.program_words.specs.Asked.{walk, make}
 use Rattle.wav_reader.specs.declared.opened.WavHead.{WavHead}
 use Rattle.wav_reader.specs.declared.wav.Wav.{Wav}
 use Rattle.period_writer.specs.declared.geometry.Geometry.{Geometry}
@@ -22,6 +24,7 @@ use Rattle.period_writer.specs.Runs.{Measures, measures}
 use Rattle.period_writer.specs.Rings.{ring_bytes, limit_of, slack_of, ahead_of}
 use Rattle.laws_start.specs.Reading.{IsRead}
 use Rattle.laws_start.specs.Tasks.{HavePlans}
+use Rattle.program_runs.specs.Outputs.{HavePlansOf}
 use Rattle.sound_report.specs.declared.played.Played.{Played}
 use Rattle.sound_report.specs.declared.played.CutLine.{CutLine}
 use Rattle.sound_report.specs.declared.played.CutLine.TheVariants as cuts
@@ -34,7 +37,7 @@ use Rattle.program_runs.specs.Histories.{command_total, journal_of, telling_of_r
 use Rattle.laws_serving.specs.ServingSchedules.{ServesSound}
 use Rattle.program_runs.specs.Served.{all_rounds, line_count, ServesBringUp, ServesPlay, ServedWalkEnds, ServedPlayEnds, IsFedWhole, PlaysAll}
 use Rattle.hda_program.specs.Answers.{HasEnded, HasEndedPlay, HasWritten}
-use Rattle.hda_program.specs.Asks.{IsWalkOf, IsPlayOf}
+use Rattle.hda_program.specs.Asks.{IsSoundOf, IsWalkOf}
 use Rattle.hda_program.specs.Causes.{IsOfPlay, IsOfWalk, IsShortCut}
 use Rattle.hda_program.specs.Complete.{CanPlay, CanWalk}
 use Rattle.hda_program.specs.Files.{IsMachineOf, IsScheduleOf}
@@ -43,9 +46,10 @@ use Rattle.hda_program.specs.PlayedFiles.{HasPlayedFiles}
 use Rattle.hda_program.specs.Promises.{HasWalked, HasRun, IsReported, KeepsPromise}
 use Rattle.hda_program.specs.Rings.{IsRingOf}
 use Rattle.hda_program.specs.Served.{EndsSo, WalksSo, PlaysSo, PlaysWhole}
-use Rattle.hda_program.proofs.Complete.{files_complete, play_complete, walk_complete}
-use Rattle.hda_program.proofs.Endings.{never_short, play_runs, run_promised, same_asked, walk_runs}
+use Rattle.hda_program.proofs.Complete.{files_complete, sound_complete, walk_complete}
+use Rattle.hda_program.proofs.Endings.{never_short, run_promised, same_asked, sound_runs, walk_runs}
 use Rattle.hda_program.proofs.OneReading.{one_machine, one_plans, one_schedule, one_wav_format, one_wav_frames}
+use Rattle.hda_program.proofs.SoundWords.{no_sound, same_sound}
 use Rattle.hda_program.proofs.PlayEndings.{files_promised, files_runs}
 
 -- ---- a schedule that was read is no longer than its limits
@@ -96,20 +100,20 @@ one_measure periods period fifo format one other h k = measured periods period f
 
 abbrev pub WalkLaw : Type 0
 WalkLaw =
-    (machine : Machine) (plans : List Plan) (schedule : Schedule) (played : Played) → IsSound machine → IsRead machine → HavePlans walk_format machine.codecs plans → IsLimited schedule → ServesBringUp walk_format machine plans schedule
-    → IsWalked machine plans schedule played → ServedWalkEnds (command_total walk_format machine plans) (line_count schedule) played.fault
+    (machine : Machine) (plans : List Plan) (schedule : Schedule) (played : Played) → IsSound machine → IsRead machine → HavePlans walk_format machine.codecs plans → IsLimited schedule → ServesBringUp Analog walk_format machine plans schedule
+    → IsWalked machine plans schedule played → ServedWalkEnds (command_total Analog walk_format machine plans) (line_count schedule) played.fault
 
 abbrev pub PlayLaw : Type 0
 PlayLaw =
-    (machine : Machine) (plans : List Plan) (wav : Wav) (geometry : Geometry) (schedule : Schedule) (played : Played) → IsSound machine → IsRead machine → HavePlans wav.format machine.codecs plans → IsLimited schedule
-    → ServesPlay wav.format machine plans geometry schedule → IsPlayed machine plans wav geometry schedule played
-    → ServedPlayEnds (command_total wav.format machine plans) (line_count schedule) (block_bytes wav.format) played.total played.runs played.silences played.fault
+    (kind : PinKind) (machine : Machine) (plans : List Plan) (wav : Wav) (geometry : Geometry) (schedule : Schedule) (played : Played) → IsSound machine → IsRead machine → HavePlansOf kind wav.format machine.codecs plans → IsLimited schedule
+    → ServesPlay kind wav.format machine plans geometry schedule → IsPlayed kind machine plans wav geometry schedule played
+    → ServedPlayEnds (command_total kind wav.format machine plans) (line_count schedule) (block_bytes wav.format) played.total played.runs played.silences played.fault
 
 abbrev pub WholeLaw : Type 0
 WholeLaw =
-    (machine : Machine) (plans : List Plan) (wav : Wav) (geometry : Geometry) (schedule : Schedule) (played : Played) (frames : ℕ) → IsSound machine → IsRead machine → HavePlans wav.format machine.codecs plans → IsLimited schedule
-    → ServesPlay wav.format machine plans geometry schedule → IsPlayed machine plans wav geometry schedule played → length wav.pcm ≡ frames * block_bytes geometry.format
-    → IsFedWhole (command_total wav.format machine plans) (measures geometry).ring (length wav.pcm) (all_rounds schedule) (telling_of_run machine played).start (journal_of played) → PlaysAll (length wav.pcm) played.silences played.fault
+    (kind : PinKind) (machine : Machine) (plans : List Plan) (wav : Wav) (geometry : Geometry) (schedule : Schedule) (played : Played) (frames : ℕ) → IsSound machine → IsRead machine → HavePlansOf kind wav.format machine.codecs plans → IsLimited schedule
+    → ServesPlay kind wav.format machine plans geometry schedule → IsPlayed kind machine plans wav geometry schedule played → length wav.pcm ≡ frames * block_bytes geometry.format
+    → IsFedWhole (command_total kind wav.format machine plans) (measures geometry).ring (length wav.pcm) (all_rounds schedule) (telling_of_run machine played).start (journal_of played) → PlaysAll (length wav.pcm) played.silences played.fault
 
 -- ---- the run that is given
 
@@ -122,7 +126,7 @@ not_cut name head read failed emptied (Some (cuts.Short place)) under good long 
 module _ (told : Option Files) (failed : List ℕ → Type 0) where
   -- the walk of these words
   walked_so : (law : WalkLaw) (words : List (List ℕ)) (codec name : List ℕ) (played : Played) → IsWalkOf words codec name → (can : CanWalk told failed codec name) → HasWalked told words played
-      → ServesBringUp walk_format can.machine can.plans can.schedule → WalksSo can.machine can.plans can.schedule played
+      → ServesBringUp Analog walk_format can.machine can.plans can.schedule → WalksSo can.machine can.plans can.schedule played
   walked_so law words codec name played asks can walked serves =
       let same : walk walked.codec_name walked.schedule_name ≡ walk codec name = same_asked words _ _ walked.asks asks in
       let codec_is : walked.codec_name ≡ codec = cc in
@@ -134,8 +138,8 @@ module _ (told : Option Files) (failed : List ℕ → Type 0) where
       let machine_is : can.machine ≡ walked.machine = one_machine can.files codec walked.machine can.machine codec_file can.codec_file in
       let schedule_is : can.schedule ≡ walked.schedule = one_schedule can.files name walked.schedule can.schedule schedule_file can.schedule_file in
       let plans_are : can.plans ≡ walked.plans =
-      one_plans walk_format walked.machine.codecs walked.plans can.plans walked.planned (subst (λ (machine : Machine). HavePlans walk_format machine.codecs can.plans) machine_is can.planned) in
-      let P : Machine → List Plan → Schedule → Type 0 = λ machine plans schedule. ServesBringUp walk_format machine plans schedule → WalksSo machine plans schedule played in
+      one_plans Analog walk_format walked.machine.codecs walked.plans can.plans walked.planned (subst (λ (machine : Machine). HavePlans walk_format machine.codecs can.plans) machine_is can.planned) in
+      let P : Machine → List Plan → Schedule → Type 0 = λ machine plans schedule. ServesBringUp Analog walk_format machine plans schedule → WalksSo machine plans schedule played in
       let here : P walked.machine walked.plans walked.schedule =
       λ serves. law walked.machine walked.plans walked.schedule played walked.run.input.sound (walked.codec_file.bytes, walked.codec_file.reads) walked.planned
       (read_limited walked.schedule_file.bytes walked.schedule walked.schedule_file.reads) serves walked.run in
@@ -143,22 +147,22 @@ module _ (told : Option Files) (failed : List ℕ → Type 0) where
       (subst (λ (plans : List Plan). P walked.machine plans can.schedule) (sym plans_are) (subst (λ (schedule : Schedule). P walked.machine walked.plans schedule) (sym schedule_is) here))) serves
 
   -- the sound of these files
-  abbrev SoundsSo : Geometry → Played → Machine → List Plan → Format → ℕ → Schedule → Type 0
-  SoundsSo geometry played machine plans format frames schedule =
-      ServesPlay format machine plans geometry schedule
-      → ServedPlayEnds (command_total format machine plans) (line_count schedule) (block_bytes format) frames played.runs played.silences played.fault
-      × (IsFedWhole (command_total format machine plans) (measures geometry).ring (frames * block_bytes format) (all_rounds schedule) (telling_of_run machine played).start (journal_of played)
+  abbrev SoundsSo : PinKind → Geometry → Played → Machine → List Plan → Format → ℕ → Schedule → Type 0
+  SoundsSo kind geometry played machine plans format frames schedule =
+      ServesPlay kind format machine plans geometry schedule
+      → ServedPlayEnds (command_total kind format machine plans) (line_count schedule) (block_bytes format) frames played.runs played.silences played.fault
+      × (IsFedWhole (command_total kind format machine plans) (measures geometry).ring (frames * block_bytes format) (all_rounds schedule) (telling_of_run machine played).start (journal_of played)
       → PlaysAll (frames * block_bytes format) played.silences played.fault)
 
-  sounds_so : (law : PlayLaw) (whole_law : WholeLaw) (files : Files) (emptied : List ℕ → Type 0) (gave : ℕ → Type 0) (codec wav name : List ℕ) (periods period : ℕ) (played : Played) (geometry : Geometry)
-      → (run : HasPlayedFiles (Some files) failed emptied gave codec wav name periods period played) → played.cut ≡ None → HasShape periods period run.machine.fifo run.head.format geometry
-      → SoundsSo geometry played run.machine run.plans run.head.format run.head.frames run.schedule
-  sounds_so law whole_law files emptied gave codec wav name periods period played geometry run uncut shape serves =
+  sounds_so : (kind : PinKind) (law : PlayLaw) (whole_law : WholeLaw) (files : Files) (emptied : List ℕ → Type 0) (gave : ℕ → Type 0) (codec wav name : List ℕ) (periods period : ℕ) (played : Played) (geometry : Geometry)
+      → (run : HasPlayedFiles kind (Some files) failed emptied gave codec wav name periods period played) → played.cut ≡ None → HasShape periods period run.machine.fifo run.head.format geometry
+      → SoundsSo kind geometry played run.machine run.plans run.head.format run.head.frames run.schedule
+  sounds_so kind law whole_law files emptied gave codec wav name periods period played geometry run uncut shape serves =
       let from = run.run in
       let sounded = from.run in
       let same : measures geometry ≡ measures run.geometry = one_measure periods period run.machine.fifo run.head.format geometry run.geometry shape run.ring in
-      let commands = command_total run.head.format run.machine run.plans in
-      let serves' : ServesPlay run.head.format run.machine run.plans run.geometry run.schedule = record {
+      let commands = command_total kind run.head.format run.machine run.plans in
+      let serves' : ServesPlay kind run.head.format run.machine run.plans run.geometry run.schedule = record {
         commands = serves.commands;
         sound = subst (λ (m : Measures). ServesSound commands m.limit m.slack (all_rounds run.schedule).rounds) same serves.sound;
       } in
@@ -169,37 +173,37 @@ module _ (told : Option Files) (failed : List ℕ → Type 0) where
       let bytes : length from.pcm ≡ run.head.frames * block_bytes run.head.format = from.sound.blocks ∙ ap (λ (n : ℕ). n * block_bytes run.head.format) all in
       let long : length from.pcm ≡ run.head.frames * block_bytes run.geometry.format = bytes ∙ ap (λ (format : Format). run.head.frames * block_bytes format) (sym run.ring.format_is) in (
         subst (λ (total : ℕ). ServedPlayEnds commands (line_count run.schedule) (block_bytes run.head.format) total played.runs played.silences played.fault) sounded.input.frames_are
-            (law run.machine run.plans wav' run.geometry run.schedule played sounded.input.sound read run.planned limits serves' sounded),
+            (law kind run.machine run.plans wav' run.geometry run.schedule played sounded.input.sound read run.planned limits serves' sounded),
         λ fed. subst (λ (bytes : ℕ). PlaysAll bytes played.silences played.fault) bytes
-            (whole_law run.machine run.plans wav' run.geometry run.schedule played run.head.frames sounded.input.sound read run.planned limits serves' sounded long
+            (whole_law kind run.machine run.plans wav' run.geometry run.schedule played run.head.frames sounded.input.sound read run.planned limits serves' sounded long
             (subst (λ (bytes : ℕ). IsFedWhole commands (measures run.geometry).ring bytes (all_rounds run.schedule) (telling_of_run run.machine played).start (journal_of played)) (sym bytes)
             (subst (λ (m : Measures). IsFedWhole commands m.ring (run.head.frames * block_bytes run.head.format) (all_rounds run.schedule) (telling_of_run run.machine played).start (journal_of played)) same fed))),
       )
 
-  record SoundedSo (codec wav name : List ℕ) (periods period : ℕ) (can : CanPlay told failed codec wav name periods period) (geometry : Geometry) (played : Played) : Type 0 where
+  record SoundedSo (kind : PinKind) (codec wav name : List ℕ) (periods period : ℕ) (can : CanPlay kind told failed codec wav name periods period) (geometry : Geometry) (played : Played) : Type 0 where
     uncut : played.cut ≡ None
-    ends : PlaysSo can.machine can.plans can.head can.schedule played
-    whole : PlaysWhole can.machine can.plans can.head geometry can.schedule played
+    ends : PlaysSo kind can.machine can.plans can.head can.schedule played
+    whole : PlaysWhole kind can.machine can.plans can.head geometry can.schedule played
 
-  played_so : (law : PlayLaw) (whole_law : WholeLaw) (emptied : List ℕ → Type 0) (gave : ℕ → Type 0) (codec wav name : List ℕ) (periods period : ℕ) (played : Played) (geometry : Geometry) → (can : CanPlay told failed codec wav name periods period)
-      → IsRingOf periods period can.machine can.head geometry → HasPlayedFiles told failed emptied gave codec wav name periods period played → ServesPlay can.head.format can.machine can.plans geometry can.schedule
-      → SoundedSo codec wav name periods period can geometry played
-  played_so law whole_law emptied gave codec wav name periods period played geometry can shape given serves =
+  played_so : (kind : PinKind) (law : PlayLaw) (whole_law : WholeLaw) (emptied : List ℕ → Type 0) (gave : ℕ → Type 0) (codec wav name : List ℕ) (periods period : ℕ) (played : Played) (geometry : Geometry) → (can : CanPlay kind told failed codec wav name periods period)
+      → IsRingOf periods period can.machine can.head geometry → HasPlayedFiles kind told failed emptied gave codec wav name periods period played → ServesPlay kind can.head.format can.machine can.plans geometry can.schedule
+      → SoundedSo kind codec wav name periods period can geometry played
+  played_so kind law whole_law emptied gave codec wav name periods period played geometry can shape given serves =
       let files = can.files in
-      let run : HasPlayedFiles (Some files) failed emptied gave codec wav name periods period played = subst (λ (told : Option Files). HasPlayedFiles told failed emptied gave codec wav name periods period played) can.tells given in
+      let run : HasPlayedFiles kind (Some files) failed emptied gave codec wav name periods period played = subst (λ (told : Option Files). HasPlayedFiles kind told failed emptied gave codec wav name periods period played) can.tells given in
       let machine_is : can.machine ≡ run.machine = one_machine files codec run.machine can.machine run.codec_file can.codec_file in
       let schedule_is : can.schedule ≡ run.schedule = one_schedule files name run.schedule can.schedule run.schedule_file can.schedule_file in
       let format_is : can.head.format ≡ run.head.format = one_wav_format files wav run.head can.head run.wav_file.file can.wav_file in
       let frames_are : can.head.frames ≡ run.head.frames = one_wav_frames files wav run.head can.head run.wav_file.file can.wav_file in
       let plans_are : can.plans ≡ run.plans =
-      one_plans run.head.format run.machine.codecs run.plans can.plans run.planned
-      (subst (λ (machine : Machine). HavePlans run.head.format machine.codecs can.plans) machine_is (subst (λ (format : Format). HavePlans format can.machine.codecs can.plans) format_is can.planned)) in
+      one_plans kind run.head.format run.machine.codecs run.plans can.plans run.planned
+      (subst (λ (machine : Machine). HavePlansOf kind run.head.format machine.codecs can.plans) machine_is (subst (λ (format : Format). HavePlansOf kind format can.machine.codecs can.plans) format_is can.planned)) in
       let shape' : HasShape periods period run.machine.fifo run.head.format geometry =
       subst (λ (machine : Machine). HasShape periods period machine.fifo run.head.format geometry) machine_is (subst (λ (format : Format). HasShape periods period can.machine.fifo format geometry) format_is shape) in
-      let long : IsShortCut played.cut → ⊥ = λ short. never_short files wav run.head run.machine run.plans run.geometry run.schedule played run.wav_file.file run.run short in
+      let long : IsShortCut played.cut → ⊥ = λ short. never_short kind files wav run.head run.machine run.plans run.geometry run.schedule played run.wav_file.file run.run short in
       let uncut = not_cut wav run.head played.read (failed wav) (emptied wav) played.cut run.cut can.wav_given long in
-      let P = SoundsSo geometry played in
-      let here = sounds_so law whole_law files emptied gave codec wav name periods period played geometry run uncut shape' in
+      let P = SoundsSo kind geometry played in
+      let here = sounds_so kind law whole_law files emptied gave codec wav name periods period played geometry run uncut shape' in
       let there : P can.machine can.plans can.head.format can.head.frames can.schedule =
       subst (λ (machine : Machine). P machine can.plans can.head.format can.head.frames can.schedule) (sym machine_is)
       (subst (λ (plans : List Plan). P run.machine plans can.head.format can.head.frames can.schedule) (sym plans_are)
@@ -229,16 +233,16 @@ none_given (Some played) status IsOf ended some none = let is : IsNone (Some pla
 module _ (before after : Option (List ℕ)) (sink_failed : Type 0) (given : Option Played) (status : ℕ) (sink_good : sink_failed → ⊥) (told : Option Files) (failed emptied unasked : List ℕ → Type 0) (gave : ℕ → Type 0) where
   -- the words ask for a walk: no play is given
   walk_of_run : (law : WalkLaw) (words : List (List ℕ)) (codec name : List ℕ) (played : Played) (text : List ℕ) → IsWalkOf words codec name → (can : CanWalk told failed codec name) → HasRun told failed emptied gave words played text
-      → ServesBringUp walk_format can.machine can.plans can.schedule → WalksSo can.machine can.plans can.schedule played × (status_of played ≡ fault_status played.fault)
+      → ServesBringUp Analog walk_format can.machine can.plans can.schedule → WalksSo can.machine can.plans can.schedule played × (status_of played ≡ fault_status played.fault)
   walk_of_run law words codec name played text walks can (inr made) serves =
       let bad : make made.number ≡ walk codec name = same_asked words _ _ made.asks walks in cc
   walk_of_run law words codec name played text walks can (inl (inl walked, is)) serves =
       (walked_so told failed law words codec name played walks can walked serves, ap (λ (cut : Option CutLine). end_status cut played.fault) walked.run.silent.uncut)
   walk_of_run law words codec name played text walks can (inl (inr sounded, is)) serves =
-      let bad : play sounded.codec_name sounded.wav_name sounded.schedule_name sounded.periods sounded.period ≡ walk codec name = same_asked words _ _ sounded.asks walks in cc
+      no_sound sounded.kind sounded.codec_name sounded.wav_name sounded.schedule_name sounded.periods sounded.period (walk codec name) refl (same_asked words _ _ sounded.asks walks)
 
   pub walk_serves : (law : WalkLaw) (words : List (List ℕ)) (codec name : List ℕ) → IsWalkOf words codec name → (can : CanWalk told failed codec name) → HasEnded told failed emptied unasked gave words before after sink_failed given status
-      → ServesBringUp walk_format can.machine can.plans can.schedule → EndsSo (WalksSo can.machine can.plans can.schedule) given status
+      → ServesBringUp Analog walk_format can.machine can.plans can.schedule → EndsSo (WalksSo can.machine can.plans can.schedule) given status
   walk_serves law words codec name walks can ended serves =
       ends_so before after sink_failed status (HasRun told failed emptied gave words) (WalksSo can.machine can.plans can.schedule) sink_good (λ played text run. walk_of_run law words codec name played text walks can run serves) given
       (run_promised told failed emptied unasked gave words before after sink_failed given status ended)
@@ -246,54 +250,52 @@ module _ (before after : Option (List ℕ)) (sink_failed : Type 0) (given : Opti
       (λ is. walk_runs told failed emptied unasked gave words before after sink_failed given status ended codec name walks is))
 
   -- the words ask for a sound: no walk is given
-  play_of_run : (law : PlayLaw) (whole_law : WholeLaw) (words : List (List ℕ)) (codec wav name : List ℕ) (periods period : ℕ) (played : Played) (text : List ℕ) (geometry : Geometry) → IsPlayOf words codec wav name periods period
-      → (can : CanPlay told failed codec wav name periods period) → IsRingOf periods period can.machine can.head geometry → HasRun told failed emptied gave words played text → ServesPlay can.head.format can.machine can.plans geometry can.schedule
-      → SoundedSo told failed codec wav name periods period can geometry played
-  play_of_run law whole_law words codec wav name periods period played text geometry plays can shape (inr made) serves =
-      let bad : make made.number ≡ play codec wav name periods period = same_asked words _ _ made.asks plays in cc
-  play_of_run law whole_law words codec wav name periods period played text geometry plays can shape (inl (inl walked, is)) serves =
-      let bad : walk walked.codec_name walked.schedule_name ≡ play codec wav name periods period = same_asked words _ _ walked.asks plays in cc
-  play_of_run law whole_law words codec wav name periods period played text geometry plays can shape (inl (inr sounded, is)) serves =
-      let same : play sounded.codec_name sounded.wav_name sounded.schedule_name sounded.periods sounded.period ≡ play codec wav name periods period = same_asked words _ _ sounded.asks plays in
-      played_so told failed law whole_law emptied gave codec wav name periods period played geometry can shape (subst (λ (asked : Asked). FilesOf asked played) same sounded.files) serves
-    where
-      FilesOf : Asked → Played → Type 0
-      FilesOf (play codec wav name periods period) played = HasPlayedFiles told failed emptied gave codec wav name periods period played
-      FilesOf other played = Unit {0}
+  sound_of_run : (kind : PinKind) (law : PlayLaw) (whole_law : WholeLaw) (words : List (List ℕ)) (codec wav name : List ℕ) (periods period : ℕ) (played : Played) (text : List ℕ) (geometry : Geometry) → IsSoundOf kind words codec wav name periods period
+      → (can : CanPlay kind told failed codec wav name periods period) → IsRingOf periods period can.machine can.head geometry → HasRun told failed emptied gave words played text → ServesPlay kind can.head.format can.machine can.plans geometry can.schedule
+      → SoundedSo told failed kind codec wav name periods period can geometry played
+  sound_of_run kind law whole_law words codec wav name periods period played text geometry plays can shape (inr made) serves =
+      no_sound kind codec wav name periods period (make made.number) refl (same_asked words _ _ plays made.asks)
+  sound_of_run kind law whole_law words codec wav name periods period played text geometry plays can shape (inl (inl walked, is)) serves =
+      no_sound kind codec wav name periods period (walk walked.codec_name walked.schedule_name) refl (same_asked words _ _ plays walked.asks)
+  sound_of_run kind law whole_law words codec wav name periods period played text geometry plays can shape (inl (inr sounded, is)) serves =
+      let files : HasPlayedFiles kind told failed emptied gave codec wav name periods period played =
+      same_sound (λ k c w n p q. HasPlayedFiles k told failed emptied gave c w n p q played) sounded.kind kind sounded.codec_name sounded.wav_name sounded.schedule_name codec wav name
+      sounded.periods sounded.period periods period (same_asked words _ _ sounded.asks plays) sounded.files in
+      played_so told failed kind law whole_law emptied gave codec wav name periods period played geometry can shape files serves
 
-  module _ (law : PlayLaw) (whole_law : WholeLaw) (codec wav name : List ℕ) (periods period : ℕ) (geometry : Geometry) (can : CanPlay told failed codec wav name periods period) (shape : IsRingOf periods period can.machine can.head geometry)
-      (serves : ServesPlay can.head.format can.machine can.plans geometry can.schedule) where
-    status_so : (played : Played) → SoundedSo told failed codec wav name periods period can geometry played → status_of played ≡ fault_status played.fault
+  module _ (kind : PinKind) (law : PlayLaw) (whole_law : WholeLaw) (codec wav name : List ℕ) (periods period : ℕ) (geometry : Geometry) (can : CanPlay kind told failed codec wav name periods period) (shape : IsRingOf periods period can.machine can.head geometry)
+      (serves : ServesPlay kind can.head.format can.machine can.plans geometry can.schedule) where
+    status_so : (played : Played) → SoundedSo told failed kind codec wav name periods period can geometry played → status_of played ≡ fault_status played.fault
     status_so played so = ap (λ (cut : Option CutLine). end_status cut played.fault) so.uncut
 
-    module _ (Ends : Played → Type 0) (each : (played : Played) → SoundedSo told failed codec wav name periods period can geometry played → Ends played) where
-      words_so : (words : List (List ℕ)) → IsPlayOf words codec wav name periods period → HasEnded told failed emptied unasked gave words before after sink_failed given status → EndsSo Ends given status
+    module _ (Ends : Played → Type 0) (each : (played : Played) → SoundedSo told failed kind codec wav name periods period can geometry played → Ends played) where
+      words_so : (words : List (List ℕ)) → IsSoundOf kind words codec wav name periods period → HasEnded told failed emptied unasked gave words before after sink_failed given status → EndsSo Ends given status
       words_so words plays ended =
           ends_so before after sink_failed status (HasRun told failed emptied gave words) Ends sink_good
-          (λ played text run. let so = play_of_run law whole_law words codec wav name periods period played text geometry plays can shape run serves in (each played so, status_so played so)) given
+          (λ played text run. let so = sound_of_run kind law whole_law words codec wav name periods period played text geometry plays can shape run serves in (each played so, status_so played so)) given
           (run_promised told failed emptied unasked gave words before after sink_failed given status ended)
-          (none_given given status IsOfPlay (play_complete before after sink_failed given status sink_good told failed emptied unasked gave words codec wav name periods period plays can ended)
-          (λ is. play_runs told failed emptied unasked gave words before after sink_failed given status ended codec wav name periods period plays (inl is)))
+          (none_given given status IsOfPlay (sound_complete before after sink_failed given status sink_good told failed emptied unasked gave words kind codec wav name periods period plays can ended)
+          (λ is. sound_runs told failed emptied unasked gave words before after sink_failed given status ended kind codec wav name periods period plays (inl is)))
 
-      files_so : HasEndedPlay told failed emptied unasked gave codec wav name periods period before after sink_failed given status → EndsSo Ends given status
+      files_so : HasEndedPlay kind told failed emptied unasked gave codec wav name periods period before after sink_failed given status → EndsSo Ends given status
       files_so ended =
-          ends_so before after sink_failed status (IsReported (HasPlayedFiles told failed emptied gave codec wav name periods period)) Ends sink_good
-          (λ played text run. let so = played_so told failed law whole_law emptied gave codec wav name periods period played geometry can shape run.0 serves in (each played so, status_so played so)) given
-          (files_promised told failed emptied unasked gave codec wav name periods period before after sink_failed given status ended)
-          (none_given given status IsOfPlay (files_complete before after sink_failed given status sink_good told failed emptied unasked gave codec wav name periods period can ended)
-          (λ is. files_runs told failed emptied unasked gave codec wav name periods period before after sink_failed given status ended (inl is)))
+          ends_so before after sink_failed status (IsReported (HasPlayedFiles kind told failed emptied gave codec wav name periods period)) Ends sink_good
+          (λ played text run. let so = played_so told failed kind law whole_law emptied gave codec wav name periods period played geometry can shape run.0 serves in (each played so, status_so played so)) given
+          (files_promised kind told failed emptied unasked gave codec wav name periods period before after sink_failed given status ended)
+          (none_given given status IsOfPlay (files_complete before after sink_failed given status sink_good told failed emptied unasked gave kind codec wav name periods period can ended)
+          (λ is. files_runs kind told failed emptied unasked gave codec wav name periods period before after sink_failed given status ended (inl is)))
 
-    pub play_serves : (words : List (List ℕ)) → IsPlayOf words codec wav name periods period → HasEnded told failed emptied unasked gave words before after sink_failed given status
-        → EndsSo (PlaysSo can.machine can.plans can.head can.schedule) given status
-    play_serves words plays ended = words_so (PlaysSo can.machine can.plans can.head can.schedule) (λ played so. so.ends) words plays ended
+    pub sound_serves : (words : List (List ℕ)) → IsSoundOf kind words codec wav name periods period → HasEnded told failed emptied unasked gave words before after sink_failed given status
+        → EndsSo (PlaysSo kind can.machine can.plans can.head can.schedule) given status
+    sound_serves words plays ended = words_so (PlaysSo kind can.machine can.plans can.head can.schedule) (λ played so. so.ends) words plays ended
 
-    pub play_serves_whole : (words : List (List ℕ)) → IsPlayOf words codec wav name periods period → HasEnded told failed emptied unasked gave words before after sink_failed given status
-        → EndsSo (PlaysWhole can.machine can.plans can.head geometry can.schedule) given status
-    play_serves_whole words plays ended = words_so (PlaysWhole can.machine can.plans can.head geometry can.schedule) (λ played so. so.whole) words plays ended
+    pub sound_serves_whole : (words : List (List ℕ)) → IsSoundOf kind words codec wav name periods period → HasEnded told failed emptied unasked gave words before after sink_failed given status
+        → EndsSo (PlaysWhole kind can.machine can.plans can.head geometry can.schedule) given status
+    sound_serves_whole words plays ended = words_so (PlaysWhole kind can.machine can.plans can.head geometry can.schedule) (λ played so. so.whole) words plays ended
 
-    pub files_serve : HasEndedPlay told failed emptied unasked gave codec wav name periods period before after sink_failed given status → EndsSo (PlaysSo can.machine can.plans can.head can.schedule) given status
-    files_serve ended = files_so (PlaysSo can.machine can.plans can.head can.schedule) (λ played so. so.ends) ended
+    pub files_serve : HasEndedPlay kind told failed emptied unasked gave codec wav name periods period before after sink_failed given status → EndsSo (PlaysSo kind can.machine can.plans can.head can.schedule) given status
+    files_serve ended = files_so (PlaysSo kind can.machine can.plans can.head can.schedule) (λ played so. so.ends) ended
 
-    pub files_serve_whole : HasEndedPlay told failed emptied unasked gave codec wav name periods period before after sink_failed given status
-        → EndsSo (PlaysWhole can.machine can.plans can.head geometry can.schedule) given status
-    files_serve_whole ended = files_so (PlaysWhole can.machine can.plans can.head geometry can.schedule) (λ played so. so.whole) ended
+    pub files_serve_whole : HasEndedPlay kind told failed emptied unasked gave codec wav name periods period before after sink_failed given status
+        → EndsSo (PlaysWhole kind can.machine can.plans can.head geometry can.schedule) given status
+    files_serve_whole ended = files_so (PlaysWhole kind can.machine can.plans can.head geometry can.schedule) (λ played so. so.whole) ended

@@ -1,7 +1,7 @@
 -- A shelf that is asked twice, and requests as what the words mean.
 use Rattle.std.proofs.Common.{◌≡◌, ◌≢◌, ℕ, ◌+◌, ◌≤◌, List, [], ◌∷◌, inl, inr, Option, Some, subst, sym, arith}
+use Rattle.route_planner.specs.declared.pin_kind.PinKind.TheVariants.{Analog, Digital}
 use Rattle.hda_outside.specs.Shelf.{Files}
-use Rattle.hda_outside.specs.Counts.{Rose}
 use Rattle.hda_files.specs.declared.machine.Machine.{Machine}
 use Rattle.program_words.specs.declared.request.Request.{Request}
 use Rattle.program_words.specs.declared.request.Request.TheVariants as request
@@ -30,8 +30,10 @@ pub request_meant : (told : Option Files) (failed emptied unasked : List ℕ →
 request_meant told failed emptied unasked gave words (request.Route codec format) meant is answers = inr (inl (codec.now, format, is, answers))
 request_meant told failed emptied unasked gave words (request.Walk codec schedule) meant is answers = inr (inr (inl (codec.now, schedule.now, is, answers)))
 request_meant told failed emptied unasked gave words (request.Play codec wav schedule periods period) meant is answers =
-    inr (inr (inr (inl (codec.now, wav.now, schedule.now, periods, period, is, answers))))
+    inr (inr (inr (inl (Analog, codec.now, wav.now, schedule.now, periods, period, is, answers))))
 request_meant told failed emptied unasked gave words (request.Make number) meant is answers = inr (inr (inr (inr (number, is, answers))))
+request_meant told failed emptied unasked gave words (request.Spdif codec wav schedule periods period) meant is answers =
+    inr (inr (inr (inl (Digital, codec.now, wav.now, schedule.now, periods, period, is, answers))))
 
 -- a name that the words do not name is none of the request's files
 pub other_name : (words : List (List ℕ)) (asked : Asked) (name : List ℕ) → request_of words ≡ Some asked → (Names words name → ⊥) → Contains (files_of asked) name → ⊥

@@ -1,6 +1,8 @@
 -- What the program answers, and how it ends. This project's own.
-use Rattle.std.specs.Prelude.{◌≡◌, ◌≢◌, ◌⊎◌, ◌+◌, ℕ, true, false, if◌then◌else◌, List, length, Option, None}
+use Rattle.std.specs.Prelude.{◌≡◌, ◌≢◌, ◌⊎◌, ℕ, true, false, if◌then◌else◌, List, Option, None}
 use Rattle.stream_format.specs.declared.format.Format.{Format}
+use Rattle.route_planner.specs.declared.pin_kind.PinKind.{PinKind}
+use Rattle.route_planner.specs.declared.pin_kind.PinKind.TheVariants.{Analog, Digital}
 use Rattle.route_planner.specs.declared.routes.Plan.{Plan}
 use Rattle.program_words.specs.declared.request.Request.{Request}
 use Rattle.program_words.specs.declared.request.Request.TheVariants as request
@@ -15,14 +17,16 @@ use Rattle.sound_report.specs.declared.played.Played.{Played}
 use Rattle.sound_report.specs.declared.status.Status.TheVariants.{Done, WordsRefused, SinkFailed, OutOfMemory}
 use Rattle.sound_report.specs.PlanLines.{plans_lines}
 use Rattle.sound_report.specs.Statuses.{number_of}
-use Rattle.hda_program.specs.Asks.{IsNoCommand, IsRouteOf, IsWalkOf, IsPlayOf}
+use Rattle.hda_program.specs.Asks.{IsNoCommand, IsRouteOf, IsWalkOf, IsSoundOf}
 use Rattle.program_runs.specs.Walks.{walk_format, IsWalked}
 use Rattle.hda_program.specs.Files.{IsMachineOf, IsHeadOf, IsScheduleOf, CodecStops, WavStops, ScheduleStops}
 use Rattle.hda_program.specs.Files.{IsAskedAlone}
 use Rattle.hda_program.specs.PlayedFiles.{HasPlayedFiles}
+use Rattle.hda_program.specs.Pins.{AreFewPins, PinsStop}
 use Rattle.hda_program.specs.Rings.{IsRingOf, RingStops}
 use Rattle.hda_program.specs.Meanings.{Meant, telling, unrouted, of_run}
 use Rattle.laws_start.specs.Tasks.{HavePlans}
+use Rattle.program_runs.specs.Outputs.{HavePlansOf}
 use Rattle.driver_agenda.specs.Planned.{have_route}
 use Rattle.hda_program.specs.Made.{IsMakeOf, MakeAnswers}
 use Rattle.hda_program.specs.Text.{usage_line}
@@ -67,37 +71,43 @@ WalkAnswers told failed unasked codec name meant =
     (CodecStops told failed codec meant × IsAskedAlone unasked codec)
     ⊎ ((machine : Machine) × IsMachineOf told codec machine × MachineWalks told failed machine name meant)
 
--- ---- `play`
+-- ---- `play` and `spdif`
 
--- what `play` answers for the files of three names and a ring of these numbers: the ways in which it can end, in the
--- order of its checks
-pub data PlayAnswers (told : Option Files) (failed emptied unasked : List ℕ → Type 0) (gave : ℕ → Type 0)
-    (codec wav name : List ℕ) (periods period : ℕ) (meant : Meant) : Type 0 where
+-- what is answered for the files of three names and a ring of these numbers, where the sound is played through pins of
+-- the kind: the ways in which it can end, in the order of the checks
+pub data PlayAnswers (kind : PinKind) (told : Option Files) (failed emptied unasked : List ℕ → Type 0)
+    (gave : ℕ → Type 0) (codec wav name : List ℕ) (periods period : ℕ) (meant : Meant) : Type 0 where
   -- at the codec file, and it has asked for no other
   AtCodec : CodecStops told failed codec meant → IsAskedAlone unasked codec
-      → PlayAnswers told failed emptied unasked gave codec wav name periods period meant
+      → PlayAnswers kind told failed emptied unasked gave codec wav name periods period meant
+  -- at the pins of its codecs, and it has asked for no other
+  AtPins : (machine : Machine) → IsMachineOf told codec machine → PinsStop kind machine.codecs meant
+      → IsAskedAlone unasked codec
+      → PlayAnswers kind told failed emptied unasked gave codec wav name periods period meant
   -- at the WAV file, and it has asked for none but these two
-  AtWav : (machine : Machine) → IsMachineOf told codec machine → WavStops told failed wav meant
-      → IsAskedAlone (λ other. other ≢ codec → unasked other) wav
-      → PlayAnswers told failed emptied unasked gave codec wav name periods period meant
+  AtWav : (machine : Machine) → IsMachineOf told codec machine → AreFewPins kind machine.codecs
+      → WavStops told failed wav meant → IsAskedAlone (λ other. other ≢ codec → unasked other) wav
+      → PlayAnswers kind told failed emptied unasked gave codec wav name periods period meant
   -- at the schedule
-  AtSchedule : (machine : Machine) (head : WavHead) → IsMachineOf told codec machine → IsHeadOf told wav head
-      → ScheduleStops told failed name meant
-      → PlayAnswers told failed emptied unasked gave codec wav name periods period meant
+  AtSchedule : (machine : Machine) (head : WavHead) → IsMachineOf told codec machine → AreFewPins kind machine.codecs
+      → IsHeadOf told wav head → ScheduleStops told failed name meant
+      → PlayAnswers kind told failed emptied unasked gave codec wav name periods period meant
   -- at the ring
   AtRing : (machine : Machine) (head : WavHead) (schedule : Schedule) → IsMachineOf told codec machine
-      → IsHeadOf told wav head → IsScheduleOf told name schedule → RingStops periods period machine head meant
-      → PlayAnswers told failed emptied unasked gave codec wav name periods period meant
+      → AreFewPins kind machine.codecs → IsHeadOf told wav head → IsScheduleOf told name schedule
+      → RingStops periods period machine head meant
+      → PlayAnswers kind told failed emptied unasked gave codec wav name periods period meant
   -- at the plans, of which none has a route
   AtPlans : (machine : Machine) (head : WavHead) (schedule : Schedule) (geometry : Geometry) (plans : List Plan)
-      → IsMachineOf told codec machine → IsHeadOf told wav head → IsScheduleOf told name schedule
-      → IsRingOf periods period machine head geometry → HavePlans head.format machine.codecs plans
-      → have_route plans ≡ false → meant ≡ unrouted machine.codecs plans
-      → PlayAnswers told failed emptied unasked gave codec wav name periods period meant
+      → IsMachineOf told codec machine → AreFewPins kind machine.codecs → IsHeadOf told wav head
+      → IsScheduleOf told name schedule → IsRingOf periods period machine head geometry
+      → HavePlansOf kind head.format machine.codecs plans → have_route plans ≡ false
+      → meant ≡ unrouted machine.codecs plans
+      → PlayAnswers kind told failed emptied unasked gave codec wav name periods period meant
   -- with a run
   AtRun : (played : Played)
-      → HasPlayedFiles told failed emptied gave codec wav name periods period played → meant ≡ of_run played
-      → PlayAnswers told failed emptied unasked gave codec wav name periods period meant
+      → HasPlayedFiles kind told failed emptied gave codec wav name periods period played → meant ≡ of_run played
+      → PlayAnswers kind told failed emptied unasked gave codec wav name periods period meant
 
 -- ---- all commands
 
@@ -109,8 +119,10 @@ RequestAnswers told failed emptied unasked gave (request.Route codec format) mea
 RequestAnswers told failed emptied unasked gave (request.Walk codec schedule) meant =
     WalkAnswers told failed unasked codec.now schedule.now meant
 RequestAnswers told failed emptied unasked gave (request.Play codec wav schedule periods period) meant =
-    PlayAnswers told failed emptied unasked gave codec.now wav.now schedule.now periods period meant
+    PlayAnswers Analog told failed emptied unasked gave codec.now wav.now schedule.now periods period meant
 RequestAnswers told failed emptied unasked gave (request.Make number) meant = MakeAnswers number meant
+RequestAnswers told failed emptied unasked gave (request.Spdif codec wav schedule periods period) meant =
+    PlayAnswers Digital told failed emptied unasked gave codec.now wav.now schedule.now periods period meant
 
 -- what the program answers to its words, where the shelf told these files, failed under some names, answered under some
 -- with no byte, was not asked under some, and gave no more than some numbers of bytes
@@ -121,9 +133,9 @@ IsMeant told failed emptied unasked gave words meant =
     ⊎ (((name : List ℕ) × (format : Format) × IsRouteOf words name format × RouteAnswers told failed name format meant)
     ⊎ (((codec : List ℕ) × (name : List ℕ) × IsWalkOf words codec name
     × WalkAnswers told failed unasked codec name meant)
-    ⊎ (((codec : List ℕ) × (wav : List ℕ) × (name : List ℕ) × (periods : ℕ) × (period : ℕ)
-    × IsPlayOf words codec wav name periods period
-    × PlayAnswers told failed emptied unasked gave codec wav name periods period meant)
+    ⊎ (((kind : PinKind) × (codec : List ℕ) × (wav : List ℕ) × (name : List ℕ) × (periods : ℕ) × (period : ℕ)
+    × IsSoundOf kind words codec wav name periods period
+    × PlayAnswers kind told failed emptied unasked gave codec wav name periods period meant)
     ⊎ ((number : ℕ) × IsMakeOf words number × MakeAnswers number meant))))
 
 -- ---- the end
@@ -158,11 +170,12 @@ abbrev pub HasEnded : Option Files → (failed emptied unasked : List ℕ → Ty
 HasEnded told failed emptied unasked gave words before after sink_failed play status =
     HasEndedWith (IsMeant told failed emptied unasked gave words) before after sink_failed play status
 
--- it has ended so, with what `play` answers for the files of these names and a ring of these numbers
-abbrev pub HasEndedPlay : Option Files → (failed emptied unasked : List ℕ → Type 0) → (gave : ℕ → Type 0)
+-- it has ended so, with what is answered for the files of these names and a ring of these numbers, where the sound is
+-- played through pins of the kind
+abbrev pub HasEndedPlay : PinKind → Option Files → (failed emptied unasked : List ℕ → Type 0) → (gave : ℕ → Type 0)
     → (codec wav schedule : List ℕ)
     → (periods period : ℕ) → (before after : Option (List ℕ)) → (sink_failed : Type 0) → Option Played → (status : ℕ)
     → Type 0
-HasEndedPlay told failed emptied unasked gave codec wav name periods period before after sink_failed play status =
-    HasEndedWith (PlayAnswers told failed emptied unasked gave codec wav name periods period) before after sink_failed
-    play status
+HasEndedPlay kind told failed emptied unasked gave codec wav name periods period before after sink_failed play status =
+    HasEndedWith (PlayAnswers kind told failed emptied unasked gave codec wav name periods period) before after
+    sink_failed play status

@@ -2,7 +2,9 @@
 use Rattle.std.specs.Prelude.{◌≡◌, ℕ, List, [], ◌∷◌, Option, Some, None, Contains, option_and_then}
 use Rattle.stream_format.specs.declared.format.Format.{Format}
 use Rattle.stream_format.specs.Cadence.{hertz}
-use Rattle.program_words.specs.Asked.{Asked, route, walk, play, make, bits_of, request_of}
+use Rattle.route_planner.specs.declared.pin_kind.PinKind.{PinKind}
+use Rattle.route_planner.specs.declared.pin_kind.PinKind.TheVariants.{Analog, Digital}
+use Rattle.program_words.specs.Asked.{Asked, route, walk, play, make, spdif, bits_of, request_of}
 
 -- the words are those of no command
 abbrev pub IsNoCommand : List (List ℕ) → Type 0
@@ -22,12 +24,28 @@ IsWalkOf words codec schedule = request_of words ≡ Some (walk codec schedule)
 abbrev pub IsPlayOf : List (List ℕ) → (codec wav schedule : List ℕ) → (periods period : ℕ) → Type 0
 IsPlayOf words codec wav schedule periods period = request_of words ≡ Some (play codec wav schedule periods period)
 
+-- the same of `spdif`
+abbrev pub IsSpdifOf : List (List ℕ) → (codec wav schedule : List ℕ) → (periods period : ℕ) → Type 0
+IsSpdifOf words codec wav schedule periods period = request_of words ≡ Some (spdif codec wav schedule periods period)
+
+-- the command that plays through pins of a kind
+abbrev pub sound_asked : PinKind → (codec wav schedule : List ℕ) → (periods period : ℕ) → Asked
+sound_asked Analog codec wav schedule periods period = play codec wav schedule periods period
+sound_asked Digital codec wav schedule periods period = spdif codec wav schedule periods period
+
+-- the words ask for a sound through pins of the kind: with `play` through analog ones, and with `spdif` through digital
+-- ones
+abbrev pub IsSoundOf : PinKind → List (List ℕ) → (codec wav schedule : List ℕ) → (periods period : ℕ) → Type 0
+IsSoundOf kind words codec wav schedule periods period =
+    request_of words ≡ Some (sound_asked kind codec wav schedule periods period)
+
 -- the names of the files that are asked for
 abbrev pub files_of : Asked → List (List ℕ)
 files_of (route codec rate bits channels) = codec ∷ []
 files_of (walk codec schedule) = codec ∷ schedule ∷ []
 files_of (play codec wav schedule periods period) = codec ∷ wav ∷ schedule ∷ []
 files_of (make number) = []
+files_of (spdif codec wav schedule periods period) = codec ∷ wav ∷ schedule ∷ []
 
 abbrev pub files_asked : Option Asked → List (List ℕ)
 files_asked None = []
@@ -47,6 +65,7 @@ codec_of (route codec rate bits channels) = Some codec
 codec_of (walk codec schedule) = Some codec
 codec_of (play codec wav schedule periods period) = Some codec
 codec_of (make number) = None
+codec_of (spdif codec wav schedule periods period) = Some codec
 
 -- the words name a codec file
 abbrev pub NamesCodecFile : List (List ℕ) → List ℕ → Type 0

@@ -1,7 +1,9 @@
 -- The causes of single statuses, and when a run is given. This project's own.
 use Rattle.std.specs.List.{Contains}
-use Rattle.std.specs.Prelude.{◌≡◌, ◌⊎◌, ◌++◌, ◌∷◌, [], ℕ, true, false, List, Option, Some, None, string_bytes}
+use Rattle.std.specs.Prelude.{◌≡◌, ◌⊎◌, ◌<◌, ◌++◌, ◌∷◌, [], ℕ, true, false, List, Option, Some, None, string_bytes}
 use Rattle.stream_format.specs.declared.format.Format.{Format}
+use Rattle.route_planner.specs.declared.pin_kind.PinKind.{PinKind}
+use Rattle.route_planner.specs.declared.pin_kind.PinKind.TheVariants.{Analog, Digital}
 use Rattle.route_planner.specs.declared.routes.Plan.{Plan}
 use Rattle.hda_files.specs.declared.machine.Machine.{Machine}
 use Rattle.hda_outside.specs.Shelf.{Files}
@@ -15,12 +17,13 @@ use Rattle.sound_report.specs.declared.status.Status.TheVariants.{Done, WordsRef
 use Rattle.sound_report.specs.declared.status.Status.TheVariants.{ScheduleRefused, NothingRouted, Unanswered, Late}
 use Rattle.sound_report.specs.declared.status.Status.TheVariants.{ScheduleEnded, GeometryRefused, WavShrank}
 use Rattle.sound_report.specs.Statuses.{number_of}
-use Rattle.hda_program.specs.Asks.{Names, NamesCodecFile, IsRouteOf, IsWalkOf, IsPlayOf}
+use Rattle.hda_program.specs.Asks.{Names, NamesCodecFile, IsRouteOf, IsWalkOf, IsSoundOf, IsSpdifOf}
 use Rattle.program_runs.specs.Walks.{walk_format}
 use Rattle.hda_program.specs.Files.{IsMachineOf, IsHeadOf, IsScheduleOf, IsCodecRefused, IsWavRefused}
 use Rattle.hda_program.specs.Files.{IsScheduleRefused}
+use Rattle.hda_program.specs.Pins.{AreFewPins, most_pins, pins_among}
 use Rattle.hda_program.specs.Rings.{IsBadRing}
-use Rattle.laws_start.specs.Tasks.{HavePlans}
+use Rattle.program_runs.specs.Outputs.{HavePlansOf}
 use Rattle.driver_agenda.specs.Planned.{have_route}
 
 -- the shelf failed under a name of the words
@@ -41,31 +44,46 @@ abbrev pub HasBadCodecFile : Option Files → List (List ℕ) → Type 0
 HasBadCodecFile told words =
     (name : List ℕ) × (text : List ℕ) × NamesCodecFile words name × IsCodecRefused told name text
 
--- the words ask for a sound by the schedule of the second name, and their WAV file says this before it
-pub record WantsSound (told : Option Files) (words : List (List ℕ)) (codec_name schedule_name : List ℕ) (head : WavHead)
-    : Type 0 where
+-- the words ask for a sound through digital pins, and name a codec file that reads as a machine with too many of them
+pub record HasManyDigitalPins (told : Option Files) (words : List (List ℕ)) : Type 0 where
+  pub codec_name : List ℕ
+  pub wav_name : List ℕ
+  pub schedule_name : List ℕ
+  pub periods : ℕ
+  pub period : ℕ
+  pub machine : Machine
+  pub asks : IsSpdifOf words codec_name wav_name schedule_name periods period
+  pub codec_file : IsMachineOf told codec_name machine
+  pub many : most_pins < pins_among Digital machine.codecs
+
+-- the words ask for a sound through pins of the kind by the schedule of the second name, and their WAV file says this
+-- before it
+pub record WantsSound (kind : PinKind) (told : Option Files) (words : List (List ℕ))
+    (codec_name schedule_name : List ℕ) (head : WavHead) : Type 0 where
   pub wav_name : List ℕ
   pub periods : ℕ
   pub period : ℕ
-  pub asks : IsPlayOf words codec_name wav_name schedule_name periods period
+  pub asks : IsSoundOf kind words codec_name wav_name schedule_name periods period
   pub wav_file : IsHeadOf told wav_name head
 
--- the words want a run by the schedule of the second name: a walk, or a sound
-abbrev pub WantsRun : Option Files → List (List ℕ) → (codec_name schedule_name : List ℕ) → Type 0
-WantsRun told words codec_name schedule_name =
-    IsWalkOf words codec_name schedule_name
-    ⊎ ((head : WavHead) × WantsSound told words codec_name schedule_name head)
+-- the words want a run through pins of the kind by the schedule of the second name: a walk, which sets up analog ones,
+-- or a sound
+abbrev pub WantsRun : PinKind → Option Files → List (List ℕ) → (codec_name schedule_name : List ℕ) → Type 0
+WantsRun kind told words codec_name schedule_name =
+    ((kind ≡ Analog) × IsWalkOf words codec_name schedule_name)
+    ⊎ ((head : WavHead) × WantsSound kind told words codec_name schedule_name head)
 
--- the words want plans of the codec file of this name, for this format: a sound for its own
-abbrev pub WantsPlans : Option Files → List (List ℕ) → (codec_name : List ℕ) → Format → Type 0
-WantsPlans told words codec_name format =
-    IsRouteOf words codec_name format
-    ⊎ (((schedule_name : List ℕ) × IsWalkOf words codec_name schedule_name × (format ≡ walk_format))
-    ⊎ ((schedule_name : List ℕ) × (head : WavHead) × WantsSound told words codec_name schedule_name head
+-- the words want plans of the pins of the kind of the codec file of this name, for this format: a sound for its own
+abbrev pub WantsPlans : PinKind → Option Files → List (List ℕ) → (codec_name : List ℕ) → Format → Type 0
+WantsPlans kind told words codec_name format =
+    ((kind ≡ Analog) × IsRouteOf words codec_name format)
+    ⊎ (((schedule_name : List ℕ) × (kind ≡ Analog) × IsWalkOf words codec_name schedule_name × (format ≡ walk_format))
+    ⊎ ((schedule_name : List ℕ) × (head : WavHead) × WantsSound kind told words codec_name schedule_name head
     × (format ≡ head.format)))
 
 -- the words name a codec file that reads as a machine, and a WAV file that is too long, or has a fault before its sound
 pub record HasBadWav (told : Option Files) (words : List (List ℕ)) : Type 0 where
+  pub kind : PinKind
   pub codec_name : List ℕ
   pub wav_name : List ℕ
   pub schedule_name : List ℕ
@@ -73,24 +91,28 @@ pub record HasBadWav (told : Option Files) (words : List (List ℕ)) : Type 0 wh
   pub period : ℕ
   pub machine : Machine
   pub text : List ℕ
-  pub asks : IsPlayOf words codec_name wav_name schedule_name periods period
+  pub asks : IsSoundOf kind words codec_name wav_name schedule_name periods period
   pub codec_file : IsMachineOf told codec_name machine
+  pub pins : AreFewPins kind machine.codecs
   pub refused : IsWavRefused told wav_name text
 
 -- the words name a codec file that reads as a machine, for a sound a WAV file that says it, and a schedule that is too
 -- long, or whose bytes read as a fault
 pub record HasBadSchedule (told : Option Files) (words : List (List ℕ)) : Type 0 where
+  pub kind : PinKind
   pub codec_name : List ℕ
   pub schedule_name : List ℕ
   pub machine : Machine
   pub text : List ℕ
-  pub wants : WantsRun told words codec_name schedule_name
+  pub wants : WantsRun kind told words codec_name schedule_name
   pub codec_file : IsMachineOf told codec_name machine
+  pub pins : AreFewPins kind machine.codecs
   pub refused : IsScheduleRefused told schedule_name text
 
 -- the words name files that read as a machine and a schedule, and one that says a sound, and the ring of their numbers
 -- has a fault
 pub record HasBadRing (told : Option Files) (words : List (List ℕ)) : Type 0 where
+  pub kind : PinKind
   pub codec_name : List ℕ
   pub wav_name : List ℕ
   pub schedule_name : List ℕ
@@ -100,8 +122,9 @@ pub record HasBadRing (told : Option Files) (words : List (List ℕ)) : Type 0 w
   pub head : WavHead
   pub schedule : Schedule
   pub fault : GeometryFault
-  pub asks : IsPlayOf words codec_name wav_name schedule_name periods period
+  pub asks : IsSoundOf kind words codec_name wav_name schedule_name periods period
   pub codec_file : IsMachineOf told codec_name machine
+  pub pins : AreFewPins kind machine.codecs
   pub wav_file : IsHeadOf told wav_name head
   pub schedule_file : IsScheduleOf told schedule_name schedule
   pub refused : IsBadRing periods period machine head fault
@@ -117,15 +140,17 @@ abbrev pub IsRouting : Routing → List Plan → Type 0
 IsRouting SomeRoute plans = have_route plans ≡ true
 IsRouting NoRoute plans = have_route plans ≡ false
 
--- the words name a codec file that reads as a machine, whose plans come to this
+-- the words name a codec file that reads as a machine, whose plans of the pins that they want come to this
 pub record HasPlanned (told : Option Files) (words : List (List ℕ)) (routing : Routing) : Type 0 where
+  pub kind : PinKind
   pub codec_name : List ℕ
   pub format : Format
   pub machine : Machine
   pub plans : List Plan
-  pub wants : WantsPlans told words codec_name format
+  pub wants : WantsPlans kind told words codec_name format
   pub codec_file : IsMachineOf told codec_name machine
-  pub planned : HavePlans format machine.codecs plans
+  pub pins : AreFewPins kind machine.codecs
+  pub planned : HavePlansOf kind format machine.codecs plans
   pub routed : IsRouting routing plans
 
 -- a status at which no run was made
@@ -174,10 +199,11 @@ pub record WasShortened (emptied : List ℕ → Type 0) (name : List ℕ) (playe
 
 -- so it was for the WAV file that the words name
 pub record OfItsWav (WasCut : (name : List ℕ) → Type 0) (words : List (List ℕ)) : Type 0 where
+  pub kind : PinKind
   pub codec_name : List ℕ
   pub wav_name : List ℕ
   pub schedule_name : List ℕ
   pub periods : ℕ
   pub period : ℕ
-  pub asks : IsPlayOf words codec_name wav_name schedule_name periods period
+  pub asks : IsSoundOf kind words codec_name wav_name schedule_name periods period
   pub cut : WasCut wav_name

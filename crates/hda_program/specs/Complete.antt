@@ -1,6 +1,7 @@
 -- When a command finds nothing to refuse, so that it comes to its routes or its run. This project's own.
 use Rattle.std.specs.Prelude.{◌≡◌, ◌⊎◌, ℕ, true, List, Option, Some, None}
 use Rattle.stream_format.specs.declared.format.Format.{Format}
+use Rattle.route_planner.specs.declared.pin_kind.PinKind.{PinKind}
 use Rattle.route_planner.specs.declared.routes.Plan.{Plan}
 use Rattle.hda_outside.specs.Shelf.{Files}
 use Rattle.hda_files.specs.declared.machine.Machine.{Machine}
@@ -11,14 +12,17 @@ use Rattle.sound_report.specs.declared.status.Status.TheVariants.{Done, OutOfMem
 use Rattle.sound_report.specs.Statuses.{number_of}
 use Rattle.program_runs.specs.Walks.{walk_format}
 use Rattle.laws_start.specs.Tasks.{HavePlans}
+use Rattle.program_runs.specs.Outputs.{HavePlansOf}
 use Rattle.hda_program.specs.Causes.{IsOfPlay, IsOfWalk}
 use Rattle.hda_program.specs.Files.{IsHeadIn, IsMachineOf, IsScheduleOf}
+use Rattle.hda_program.specs.Pins.{AreFewPins}
 use Rattle.driver_agenda.specs.Planned.{have_route}
 
 -- the shelf tells its files and failed under none of the three names. The files read as a machine and a schedule, and
--- say a sound; the ring of these numbers has no fault, and some pin has a route for the sound's format
-pub record CanPlay (told : Option Files) (failed : List ℕ → Type 0) (codec_name wav_name schedule_name : List ℕ)
-    (periods period : ℕ) : Type 0 where
+-- say a sound; digital pins are few where it is played through them, the ring of these numbers has no fault, and some
+-- pin of the kind has a route for the sound's format
+pub record CanPlay (kind : PinKind) (told : Option Files) (failed : List ℕ → Type 0)
+    (codec_name wav_name schedule_name : List ℕ) (periods period : ℕ) : Type 0 where
   pub files : Files
   pub machine : Machine
   pub head : WavHead
@@ -29,10 +33,11 @@ pub record CanPlay (told : Option Files) (failed : List ℕ → Type 0) (codec_n
   pub wav_given : failed wav_name → ⊥
   pub schedule_given : failed schedule_name → ⊥
   pub codec_file : IsMachineOf (Some files) codec_name machine
+  pub pins : AreFewPins kind machine.codecs
   pub wav_file : IsHeadIn files wav_name head
   pub schedule_file : IsScheduleOf (Some files) schedule_name schedule
   pub good_ring : fault_of periods period machine.fifo head.format ≡ None
-  pub planned : HavePlans head.format machine.codecs plans
+  pub planned : HavePlansOf kind head.format machine.codecs plans
   pub routed : have_route plans ≡ true
 
 -- the shelf tells its files and did not fail under this name, whose file reads as a machine, and some pin has a route

@@ -5,6 +5,7 @@ pub mod MadeEnds
 pub mod Made
 -- what the files come to, and what private functions promise one another of them
 pub mod Files
+pub mod Pins
 pub mod Rings
 pub mod Served
 pub mod Playing

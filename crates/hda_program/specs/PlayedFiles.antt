@@ -1,5 +1,6 @@
--- The run of `play` for the files of three names. This project's own.
+-- The run of a sound for the files of three names. This project's own.
 use Rattle.std.specs.Prelude.{◌≡◌, ◌+◌, ℕ, true, List, length, Option}
+use Rattle.route_planner.specs.declared.pin_kind.PinKind.{PinKind}
 use Rattle.route_planner.specs.declared.routes.Plan.{Plan}
 use Rattle.hda_files.specs.declared.machine.Machine.{Machine}
 use Rattle.hda_outside.specs.Shelf.{Files}
@@ -9,13 +10,15 @@ use Rattle.wav_reader.specs.declared.opened.WavHead.{WavHead}
 use Rattle.sound_report.specs.declared.played.Played.{Played}
 use Rattle.program_runs.specs.Plays.{IsCutUnder, IsPlayedFrom, most_of_frames, most_read}
 use Rattle.hda_program.specs.Files.{IsMachineOf, IsHeadOf, IsScheduleOf, bytes_before}
+use Rattle.hda_program.specs.Pins.{AreFewPins}
 use Rattle.hda_program.specs.Rings.{IsRingOf}
-use Rattle.laws_start.specs.Tasks.{HavePlans}
+use Rattle.program_runs.specs.Outputs.{HavePlansOf}
 use Rattle.driver_agenda.specs.Planned.{have_route}
 
--- the run is that of the sound of the WAV file of the second name, through the machine that the codec file of the first
--- reads as and a ring of these numbers, with the plans for that sound, by the schedule of the third
-pub record HasPlayedFiles (told : Option Files) (failed emptied : List ℕ → Type 0) (gave : ℕ → Type 0)
+-- the run is that of the sound of the WAV file of the second name, through the pins of the kind of the machine that the
+-- codec file of the first reads as and a ring of these numbers, with the plans of those pins for that sound, by the
+-- schedule of the third
+pub record HasPlayedFiles (kind : PinKind) (told : Option Files) (failed emptied : List ℕ → Type 0) (gave : ℕ → Type 0)
     (codec_name wav_name schedule_name : List ℕ) (periods period : ℕ) (played : Played) : Type 0 where
   pub machine : Machine
   pub head : WavHead
@@ -25,13 +28,14 @@ pub record HasPlayedFiles (told : Option Files) (failed emptied : List ℕ → T
   -- the input: what the codec file and the schedule read as, what the WAV file says before its sound, the ring, and the
   -- plans of the machine's codecs, of which some has a route
   pub codec_file : IsMachineOf told codec_name machine
+  pub pins : AreFewPins kind machine.codecs
   pub wav_file : IsHeadOf told wav_name head
   pub schedule_file : IsScheduleOf told schedule_name schedule
   pub ring : IsRingOf periods period machine head geometry
-  pub planned : HavePlans head.format machine.codecs plans
+  pub planned : HavePlansOf kind head.format machine.codecs plans
   pub routed : have_route plans ≡ true
   -- the sound that was read, one history, progress, open routes, the runs of the ring, what was heard, and how it ended
-  pub run : IsPlayedFrom told wav_name head machine plans geometry schedule played
+  pub run : IsPlayedFrom kind told wav_name head machine plans geometry schedule played
   -- why the reading of the sound was cut, where it was
   pub cut : IsCutUnder wav_name head played.read (failed wav_name) (emptied wav_name) played.cut
   -- no more bytes were given than the codec file and the schedule have, than stand before the sound, and than its

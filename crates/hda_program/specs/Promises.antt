@@ -1,12 +1,13 @@
--- The promises of `walk`, of `play` and of `make`: what the run is that is given, part by part, and the text that was
--- written of it. This project's own.
+-- The promises of `walk`, of `play`, of `spdif` and of `make`: what the run is that is given, part by part, and the
+-- text that was written of it. This project's own.
 use Rattle.std.specs.Prelude.{◌≡◌, ◌⊎◌, ℕ, true, List, Option}
+use Rattle.route_planner.specs.declared.pin_kind.PinKind.{PinKind}
 use Rattle.route_planner.specs.declared.routes.Plan.{Plan}
 use Rattle.hda_files.specs.declared.machine.Machine.{Machine}
 use Rattle.hda_outside.specs.Shelf.{Files}
 use Rattle.schedule_reader.specs.declared.schedule.Schedule.{Schedule}
 use Rattle.sound_report.specs.declared.played.Played.{Played}
-use Rattle.hda_program.specs.Asks.{IsWalkOf, IsPlayOf}
+use Rattle.hda_program.specs.Asks.{IsWalkOf, IsSoundOf}
 use Rattle.program_runs.specs.Walks.{walk_format, IsWalked}
 use Rattle.hda_program.specs.Files.{IsMachineOf, IsScheduleOf}
 use Rattle.hda_program.specs.PlayedFiles.{HasPlayedFiles}
@@ -34,23 +35,25 @@ pub record HasWalked (told : Option Files) (words : List (List ℕ)) (played : P
   -- one history, progress, open routes, and how it ended
   pub run : IsWalked machine plans schedule played
 
--- the run is that for which the words ask: of the files that they name, and the ring of their numbers
+-- the run is that for which the words ask: of the files that they name, and the ring of their numbers, through analog
+-- pins with `play` and through digital ones with `spdif`
 pub record HasPlayed (told : Option Files) (failed emptied : List ℕ → Type 0) (gave : ℕ → Type 0)
     (words : List (List ℕ))
     (played : Played) : Type 0 where
+  pub kind : PinKind
   pub codec_name : List ℕ
   pub wav_name : List ℕ
   pub schedule_name : List ℕ
   pub periods : ℕ
   pub period : ℕ
-  pub asks : IsPlayOf words codec_name wav_name schedule_name periods period
-  pub files : HasPlayedFiles told failed emptied gave codec_name wav_name schedule_name periods period played
+  pub asks : IsSoundOf kind words codec_name wav_name schedule_name periods period
+  pub files : HasPlayedFiles kind told failed emptied gave codec_name wav_name schedule_name periods period played
 
 -- a run of this kind, told by its report
 abbrev pub IsReported : (IsRun : Played → Type 0) → Played → (text : List ℕ) → Type 0
 IsReported IsRun played text = IsRun played × (text ≡ text_of played)
 
--- the run is the walk for which the words ask, or the play
+-- the run is the walk for which the words ask, or the sound
 abbrev pub HasWalkedOrPlayed : Option Files → (failed emptied : List ℕ → Type 0) → (gave : ℕ → Type 0)
     → List (List ℕ) → Played → Type 0
 HasWalkedOrPlayed told failed emptied gave words played = HasWalked told words played

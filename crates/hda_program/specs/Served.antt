@@ -1,6 +1,8 @@
 -- How a walk and a sound end by schedules that serve them. This project's own.
 use Rattle.std.specs.Prelude.{◌≡◌, ◌⊎◌, ◌*◌, ℕ, List, Option, IfSome, IsSomeAnd}
 use Rattle.stream_format.specs.Cadence.{block_bytes}
+use Rattle.route_planner.specs.declared.pin_kind.PinKind.{PinKind}
+use Rattle.route_planner.specs.declared.pin_kind.PinKind.TheVariants.{Analog}
 use Rattle.route_planner.specs.declared.routes.Plan.{Plan}
 use Rattle.hda_files.specs.declared.machine.Machine.{Machine}
 use Rattle.schedule_reader.specs.declared.schedule.Schedule.{Schedule}
@@ -24,12 +26,13 @@ pub record EndsSo (Ends : Played → Type 0) (given : Option Played) (status : �
 -- so a walk ends over a machine whose codecs have these plans, by the driver lines of a schedule
 abbrev pub WalksSo : Machine → List Plan → Schedule → Played → Type 0
 WalksSo machine plans schedule played =
-    ServedWalkEnds (command_total walk_format machine plans) (line_count schedule) played.fault
+    ServedWalkEnds (command_total Analog walk_format machine plans) (line_count schedule) played.fault
 
--- and so the sound that a WAV file says
-abbrev pub PlaysSo : Machine → List Plan → WavHead → Schedule → Played → Type 0
-PlaysSo machine plans head schedule played =
-    ServedPlayEnds (command_total head.format machine plans) (line_count schedule) (block_bytes head.format) head.frames
+-- and so the sound that a WAV file says, through pins of the kind
+abbrev pub PlaysSo : PinKind → Machine → List Plan → WavHead → Schedule → Played → Type 0
+PlaysSo kind machine plans head schedule played =
+    ServedPlayEnds (command_total kind head.format machine plans) (line_count schedule) (block_bytes head.format)
+    head.frames
     played.runs played.silences played.fault
 
 -- how many bytes it has
@@ -37,9 +40,9 @@ abbrev pub sound_size : WavHead → ℕ
 sound_size head = head.frames * block_bytes head.format
 
 -- where it is fed through a ring it is played whole
-abbrev pub PlaysWhole : Machine → List Plan → WavHead → Geometry → Schedule → Played → Type 0
-PlaysWhole machine plans head geometry schedule played =
-    IsFedWhole (command_total head.format machine plans) (measures geometry).ring (sound_size head)
+abbrev pub PlaysWhole : PinKind → Machine → List Plan → WavHead → Geometry → Schedule → Played → Type 0
+PlaysWhole kind machine plans head geometry schedule played =
+    IsFedWhole (command_total kind head.format machine plans) (measures geometry).ring (sound_size head)
     (all_rounds schedule)
     (telling_of_run machine played).start (journal_of played)
     → PlaysAll (sound_size head) played.silences played.fault

@@ -1,5 +1,5 @@
 -- The lines that the program writes, but for the words of a codec file's fault. This project's own.
-use Rattle.std.specs.Prelude.{ℕ, List, [], ◌++◌, codes, decimal}
+use Rattle.std.specs.Prelude.{ℕ, List, ◌++◌, codes}
 use Rattle.sound_report.specs.PlanLines.{newline}
 
 -- the last lines of the program
@@ -25,4 +25,5 @@ abbrev pub usage_line : List ℕ
 usage_line =
     codes "usage: hda_play route CODEC [--rate R] [--channels C] [--bits B] | walk CODEC SCHEDULE"
     ++ codes " | play CODEC WAV SCHEDULE [--periods K] [--period M] | make N"
+    ++ codes " | spdif CODEC WAV SCHEDULE [--periods K] [--period M]"
     ++ newline

@@ -13,6 +13,7 @@ use crate::route::answer_route;
 use crate::walk::answer_walk;
 use hda_outside::Shelf;
 use program_words::{Request, WordsFault, read_words};
+use route_planner::PinKind;
 use sound_report::Played;
 use std::alloc::{AllocError, Global};
 
@@ -88,7 +89,32 @@ pub fn answer_request<S: Shelf>(
             schedule,
             periods,
             period,
-        } => answer_play(alloc, shelf, codec, wav, schedule, periods, period),
+        } => answer_play(
+            alloc,
+            shelf,
+            PinKind::Analog,
+            codec,
+            wav,
+            schedule,
+            periods,
+            period,
+        ),
         Request::Make { number } => answer_make(alloc, number),
+        Request::Spdif {
+            codec,
+            wav,
+            schedule,
+            periods,
+            period,
+        } => answer_play(
+            alloc,
+            shelf,
+            PinKind::Digital,
+            codec,
+            wav,
+            schedule,
+            periods,
+            period,
+        ),
     }
 }

@@ -1,6 +1,7 @@
 //! What `play` does with three files, for callers that have no words.
 ghost use Rattle.std.specs.Prelude.{◌≡◌, ◌≢◌, ◌≤◌, ◌∷◌, [], ℕ, List, IfSome, IsNone, IsSome, IsSomeAnd};
 ghost use Rattle.hda_outside.specs.Counts.{Rose};
+ghost use Rattle.route_planner.specs.declared.pin_kind.PinKind.TheVariants as kind;
 ghost use Rattle.program_words.specs.Asked.{IsRingInRange};
 ghost use Rattle.sound_report.specs.Statuses.{number_of};
 ghost use Rattle.hda_program.specs.Answers.{HasEndedPlay};
@@ -19,6 +20,7 @@ use crate::run::{Ended, write_answer};
 use hda_outside::{Shelf, Sink};
 use laws_start::read_machines_are_whole;
 use program_runs::{plays_all_so, plays_end_so};
+use route_planner::PinKind;
 use sound_report::Status;
 use std::alloc::Global;
 
@@ -41,7 +43,7 @@ pub fn play_files<S: Shelf, K: Sink>(
     requires ring { IsRingInRange periods period }
 
     // The meant text was written whole, or its front at a fault of the sink or at want of memory.
-    ensures ended { HasEndedPlay (S.told shelf.old) (FailedUnder (S.faults shelf.old) (S.faults shelf.new))
+    ensures ended { HasEndedPlay kind.Analog (S.told shelf.old) (FailedUnder (S.faults shelf.old) (S.faults shelf.new))
         (EmptiedUnder (S.empties shelf.old) (S.empties shelf.new))
         (UnaskedUnder (S.asked shelf.old) (S.asked shelf.new))
         (GivenAtMost (S.given shelf.old) (S.given shelf.new))
@@ -50,7 +52,7 @@ pub fn play_files<S: Shelf, K: Sink>(
 
     // The promise of `play`: the run that is given is that of these files and this ring, few bytes were read for it,
     // and its report was written.
-    ensures promise { IfSome result.play (KeepsPromise (IsReported (HasPlayedFiles (S.told shelf.old)
+    ensures promise { IfSome result.play (KeepsPromise (IsReported (HasPlayedFiles kind.Analog (S.told shelf.old)
         (FailedUnder (S.faults shelf.old) (S.faults shelf.new))
         (EmptiedUnder (S.empties shelf.old) (S.empties shelf.new))
         (GivenAtMost (S.given shelf.old) (S.given shelf.new))
@@ -75,29 +77,30 @@ pub fn play_files<S: Shelf, K: Sink>(
         (codec.now ∷ wav.now ∷ schedule.now ∷ []) }
 
     // Good files and a good ring are not refused.
-    ensures completes { CanPlay (S.told shelf.old) (FailedUnder (S.faults shelf.old) (S.faults shelf.new)) codec.now
-        wav.now schedule.now periods period
+    ensures completes { CanPlay kind.Analog (S.told shelf.old) (FailedUnder (S.faults shelf.old) (S.faults shelf.new))
+        codec.now wav.now schedule.now periods period
         → (Rose (K.faults out.old) (K.faults out.new) → ⊥) → HasPlayedOn result.status }
 
     // A run is given then, also where its report was not written.
-    ensures given { CanPlay (S.told shelf.old) (FailedUnder (S.faults shelf.old) (S.faults shelf.new)) codec.now
-        wav.now schedule.now periods period
+    ensures given { CanPlay kind.Analog (S.told shelf.old) (FailedUnder (S.faults shelf.old) (S.faults shelf.new))
+        codec.now wav.now schedule.now periods period
         → result.status ≢ number_of Status.OutOfMemory → IsSome result.play }
 
     // What comes of a schedule that serves: the sound ends so by how many driver lines it has, and all of it is played
     // where it is fed.
     ensures served { (geometry : Geometry)
-        → (can : CanPlay (S.told shelf.old) (FailedUnder (S.faults shelf.old) (S.faults shelf.new)) codec.now wav.now
-        schedule.now periods period)
+        → (can : CanPlay kind.Analog (S.told shelf.old) (FailedUnder (S.faults shelf.old) (S.faults shelf.new))
+        codec.now wav.now schedule.now periods period)
         → (Rose (K.faults out.old) (K.faults out.new) → ⊥) → IsRingOf periods period can.machine can.head geometry
-        → ServesPlay can.head.format can.machine can.plans geometry can.schedule
-        → EndsSo (PlaysSo can.machine can.plans can.head can.schedule) result.play result.status }
+        → ServesPlay kind.Analog can.head.format can.machine can.plans geometry can.schedule
+        → EndsSo (PlaysSo kind.Analog can.machine can.plans can.head can.schedule) result.play result.status }
     ensures served_whole { (geometry : Geometry)
-        → (can : CanPlay (S.told shelf.old) (FailedUnder (S.faults shelf.old) (S.faults shelf.new)) codec.now wav.now
-        schedule.now periods period)
+        → (can : CanPlay kind.Analog (S.told shelf.old) (FailedUnder (S.faults shelf.old) (S.faults shelf.new))
+        codec.now wav.now schedule.now periods period)
         → (Rose (K.faults out.old) (K.faults out.new) → ⊥) → IsRingOf periods period can.machine can.head geometry
-        → ServesPlay can.head.format can.machine can.plans geometry can.schedule
-        → EndsSo (PlaysWhole can.machine can.plans can.head geometry can.schedule) result.play result.status }
+        → ServesPlay kind.Analog can.head.format can.machine can.plans geometry can.schedule
+        → EndsSo (PlaysWhole kind.Analog can.machine can.plans can.head geometry can.schedule) result.play
+        result.status }
 
     // The shelf is asked under the three names alone.
     ensures asked { (other : List ℕ) → other ≢ codec.now → other ≢ wav.now → other ≢ schedule.now
@@ -112,7 +115,16 @@ pub fn play_files<S: Shelf, K: Sink>(
     read_machines_are_whole();
     plays_end_so();
     plays_all_so();
-    match answer_play(alloc, shelf, codec, wav, schedule, periods, period) {
+    match answer_play(
+        alloc,
+        shelf,
+        PinKind::Analog,
+        codec,
+        wav,
+        schedule,
+        periods,
+        period,
+    ) {
         Ok(answer) => write_answer(alloc, out, answer),
         Err(_) => Ended {
             status: Status::OutOfMemory.number(),

@@ -1,5 +1,5 @@
 //! The program over any shelf and sink: it plans the routes of a codec's output pins, drives a machine until its codecs
-//! are set up, and plays sound through it. This project's own.
+//! are set up, and plays sound through its analog or its digital pins. This project's own.
 #![tactic(auto)]
 
 mod answer;
@@ -8,6 +8,7 @@ mod files;
 mod made_ends;
 mod make;
 mod message;
+mod pins;
 mod plans;
 mod play;
 mod route;

@@ -8,6 +8,7 @@ use crate::made_ends::made_runs_end_so;
 use crate::plans::plans_of;
 use made_inputs::{made_format, made_machine};
 use program_runs::play_made;
+use route_planner::PinKind;
 use std::alloc::{AllocError, Global};
 
 /// What `make` answers for a number.
@@ -19,7 +20,12 @@ pub(crate) fn answer_make(alloc: Global, number: u16) -> Result<Answer, AllocErr
 {
     made_runs_end_so();
     let machine = made_machine(alloc)?;
-    let plans = plans_of(alloc, machine.codecs.as_slice(), made_format())?;
+    let plans = plans_of(
+        alloc,
+        PinKind::Analog,
+        machine.codecs.as_slice(),
+        made_format(),
+    )?;
     let played = play_made(alloc, number, machine, plans)?;
     Ok(Answer::Made(number, played))
 }

@@ -10,7 +10,7 @@ use std::alloc::{AllocError, Global};
 
 /// The line for words that are no command.
 const USAGE: &str =
-    "usage: hda_play route CODEC [--rate R] [--channels C] [--bits B] | walk CODEC SCHEDULE | play CODEC WAV SCHEDULE [--periods K] [--period M] | make N\n";
+    "usage: hda_play route CODEC [--rate R] [--channels C] [--bits B] | walk CODEC SCHEDULE | play CODEC WAV SCHEDULE [--periods K] [--period M] | make N | spdif CODEC WAV SCHEDULE [--periods K] [--period M]\n";
 
 /// A text, and the status with which the program ends that writes it. This project's own.
 #[derive(Drop)]

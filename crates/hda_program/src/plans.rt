@@ -1,30 +1,31 @@
 //! The plans of a machine's codecs, and what is said of them.
 ghost use Rattle.std.specs.Prelude.{◌≡◌, IfOk};
 ghost use Rattle.hda_program.specs.Meanings.{message_meant, telling, unrouted};
-ghost use Rattle.laws_start.specs.Tasks.{HavePlans};
+ghost use Rattle.program_runs.specs.Outputs.{HavePlansOf};
 ghost use Rattle.driver_agenda.specs.Planned.{have_route};
 ghost use Rattle.sound_report.specs.PlanLines.{plans_lines};
 
 use crate::message::Message;
 use hda_files::CodecFile;
-use route_planner::{Format, Plan, plan};
+use route_planner::{Format, PinKind, Plan, plan_as};
 use sound_report::{Status, push_plans};
 use std::alloc::{AllocError, Global};
 
-/// The plan of each codec.
+/// The plan of the pins of the kind of each codec.
 ///
 /// # Errors
 /// Want of memory.
 pub fn plans_of(
     alloc: Global,
+    kind: PinKind,
     codecs: &[CodecFile],
     format: Format,
 ) -> Result<Vec<Plan>, AllocError>
-    ensures { IfOk result (λ plans. HavePlans format codecs.now plans.items) }
+    ensures { IfOk result (λ plans. HavePlansOf kind format codecs.now plans.items) }
 {
     let mut plans = Vec::new(alloc);
     for codec in codecs {
-        plans.push(plan(alloc, &codec.graph, format)?)?;
+        plans.push(plan_as(alloc, kind, &codec.graph, format)?)?;
     }
     Ok(plans)
 }

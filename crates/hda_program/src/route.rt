@@ -10,7 +10,7 @@ use crate::plans::{nothing_routed, plans_of, routed};
 use driver_agenda::have_route;
 use hda_files::Machine;
 use hda_outside::Shelf;
-use route_planner::Format;
+use route_planner::{Format, PinKind};
 use std::alloc::{AllocError, Global};
 
 /// What `route` answers for the codec file of this name and for this format.
@@ -41,7 +41,7 @@ pub(crate) fn answer_route<S: Shelf>(
 fn answer_machine(alloc: Global, machine: &Machine, format: Format) -> Result<Message, AllocError>
     ensures { IfOk result (λ message. MachineAnswers format machine.now (message_meant message)) }
 {
-    let plans = plans_of(alloc, machine.codecs.as_slice(), format)?;
+    let plans = plans_of(alloc, PinKind::Analog, machine.codecs.as_slice(), format)?;
     if have_route(plans.as_slice()) {
         routed(alloc, machine.codecs.as_slice(), plans.as_slice())
     } else {

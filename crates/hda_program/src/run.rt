@@ -1,12 +1,15 @@
 //! The program over any shelf and sink.
 ghost use Rattle.std.specs.Prelude.{◌≡◌, ◌≢◌, ◌≤◌, ◌⊎◌, ℕ, List, map, string_bytes, IfSome, IsNone, IsSome, IsSomeAnd};
 ghost use Rattle.stream_format.specs.declared.format.Format.{Format};
+ghost use Rattle.route_planner.specs.declared.pin_kind.PinKind.TheVariants as kind;
 ghost use Rattle.hda_outside.specs.Counts.{Rose};
 ghost use Rattle.sound_report.specs.Statuses.{number_of};
 ghost use Rattle.hda_program.specs.Answers.{HasEnded, HasWritten};
 ghost use Rattle.program_words.specs.Asked.{request_of};
-ghost use Rattle.hda_program.specs.Asks.{AsksForItsFiles, IsNoCommand, IsPlayOf, IsRouteOf, IsWalkOf, files_asked};
+ghost use Rattle.hda_program.specs.Asks.{AsksForItsFiles, IsNoCommand, IsPlayOf, IsRouteOf, IsSpdifOf, IsWalkOf};
+ghost use Rattle.hda_program.specs.Asks.{files_asked};
 ghost use Rattle.hda_program.specs.Causes.{HasBadCodecFile, HasBadRing, HasBadSchedule, HasBadWav, HasPlanned};
+ghost use Rattle.hda_program.specs.Causes.{HasManyDigitalPins};
 ghost use Rattle.hda_program.specs.Causes.{SomeRoute, NoRoute};
 ghost use Rattle.hda_program.specs.Causes.{HasStoppedUnread, HasUnreadFile, IsOfSound, IsOfWalk, IsRunless};
 ghost use Rattle.hda_program.specs.Causes.{OfItsWav, WasShortened, WasUnread};
@@ -41,11 +44,12 @@ pub struct Ended {
 /// Runs the command of these words, those after the program's name, and writes its text.
 ///
 /// The statuses are those of [`Status`]. `route` ends with 0 where some pin has a route, `walk` where all codecs were
-/// set up, `play` where all frames of sound were played, and `make`, whose inputs are made of a number, wherever its
-/// line could be written. `walk`, `play` and `make` give their run of the driver, also where its text could not be
-/// written. Where the files and the ring are good, some pin has a route and neither shelf nor sink
-/// fails, nothing is refused. `play` reads the sound while it is played; where its reading is cut the run goes on over
-/// what was read.
+/// set up, `play` and `spdif` where all frames of sound were played, and `make`, whose inputs are made of a number,
+/// wherever its line could be written. `spdif` plays as `play` does, through digital pins in place of analog ones: a
+/// codec file with more than 16 of them is refused. `walk`, `play`, `spdif` and `make` give their run of the driver,
+/// also where its text could not be written. Where the files and the ring are good, some pin has a route and neither
+/// shelf nor sink fails, nothing is refused. `play` and `spdif` read the sound while it is played; where its reading is
+/// cut the run goes on over what was read.
 pub fn hda_main<S: Shelf, K: Sink>(
     alloc: Global,
     words: &[String],
@@ -60,8 +64,8 @@ pub fn hda_main<S: Shelf, K: Sink>(
         (map string_bytes words.now) (K.taken out.old) (K.taken out.new) (Rose (K.faults out.old) (K.faults out.new))
         result.play result.status }
 
-    // The promise of `walk`, of `play` and of `make`: the run that is given is the one that the words ask for, few
-    // bytes were read for a sound, and its report was written, or its line.
+    // The promise of `walk`, of `play`, of `spdif` and of `make`: the run that is given is the one that the words ask
+    // for, few bytes were read for a sound, and its report was written, or its line.
     ensures promise { IfSome result.play (KeepsPromise (HasRun (S.told shelf.old)
         (FailedUnder (S.faults shelf.old) (S.faults shelf.new))
         (EmptiedUnder (S.empties shelf.old) (S.empties shelf.new))
@@ -79,6 +83,9 @@ pub fn hda_main<S: Shelf, K: Sink>(
         → (result.status ≡ number_of Status.OutOfMemory → ⊥) → IsSome result.play }
     ensures play_runs { (codec wav schedule : List ℕ) (periods period : ℕ)
         → IsPlayOf (map string_bytes words.now) codec wav schedule periods period
+        → IsOfSound result.status → IsSome result.play }
+    ensures spdif_runs { (codec wav schedule : List ℕ) (periods period : ℕ)
+        → IsSpdifOf (map string_bytes words.now) codec wav schedule periods period
         → IsOfSound result.status → IsSome result.play }
 
     // Where the reading of a sound was cut. A shelf that tells its files lets none get shorter.
@@ -100,7 +107,8 @@ pub fn hda_main<S: Shelf, K: Sink>(
         (UnaskedUnder (S.asked shelf.old) (S.asked shelf.new))
         (files_asked (request_of (map string_bytes words.now))) }
     ensures refused_codec { result.status ≡ number_of Status.CodecRefused
-        → HasBadCodecFile (S.told shelf.old) (map string_bytes words.now) }
+        → HasBadCodecFile (S.told shelf.old) (map string_bytes words.now)
+        ⊎ HasManyDigitalPins (S.told shelf.old) (map string_bytes words.now) }
     ensures refused_wav { result.status ≡ number_of Status.WavRefused
         → HasBadWav (S.told shelf.old) (map string_bytes words.now) }
     ensures refused_schedule { result.status ≡ number_of Status.ScheduleRefused
@@ -122,8 +130,13 @@ pub fn hda_main<S: Shelf, K: Sink>(
         → (Rose (K.faults out.old) (K.faults out.new) → ⊥) → HasWalkedOn result.status }
     ensures play_completes { (codec wav schedule : List ℕ) (periods period : ℕ)
         → IsPlayOf (map string_bytes words.now) codec wav schedule periods period
-        → CanPlay (S.told shelf.old) (FailedUnder (S.faults shelf.old) (S.faults shelf.new)) codec wav schedule periods
-        period
+        → CanPlay kind.Analog (S.told shelf.old) (FailedUnder (S.faults shelf.old) (S.faults shelf.new)) codec wav
+        schedule periods period
+        → (Rose (K.faults out.old) (K.faults out.new) → ⊥) → HasPlayedOn result.status }
+    ensures spdif_completes { (codec wav schedule : List ℕ) (periods period : ℕ)
+        → IsSpdifOf (map string_bytes words.now) codec wav schedule periods period
+        → CanPlay kind.Digital (S.told shelf.old) (FailedUnder (S.faults shelf.old) (S.faults shelf.new)) codec wav
+        schedule periods period
         → (Rose (K.faults out.old) (K.faults out.new) → ⊥) → HasPlayedOn result.status }
 
     // A run is given then, also where its report was not written.
@@ -132,8 +145,13 @@ pub fn hda_main<S: Shelf, K: Sink>(
         → result.status ≢ number_of Status.OutOfMemory → IsSome result.play }
     ensures play_given { (codec wav schedule : List ℕ) (periods period : ℕ)
         → IsPlayOf (map string_bytes words.now) codec wav schedule periods period
-        → CanPlay (S.told shelf.old) (FailedUnder (S.faults shelf.old) (S.faults shelf.new)) codec wav schedule periods
-        period
+        → CanPlay kind.Analog (S.told shelf.old) (FailedUnder (S.faults shelf.old) (S.faults shelf.new)) codec wav
+        schedule periods period
+        → result.status ≢ number_of Status.OutOfMemory → IsSome result.play }
+    ensures spdif_given { (codec wav schedule : List ℕ) (periods period : ℕ)
+        → IsSpdifOf (map string_bytes words.now) codec wav schedule periods period
+        → CanPlay kind.Digital (S.told shelf.old) (FailedUnder (S.faults shelf.old) (S.faults shelf.new)) codec wav
+        schedule periods period
         → result.status ≢ number_of Status.OutOfMemory → IsSome result.play }
 
     // What is made of a number is played to its end.
@@ -145,22 +163,38 @@ pub fn hda_main<S: Shelf, K: Sink>(
     ensures walk_served { (codec schedule : List ℕ) → IsWalkOf (map string_bytes words.now) codec schedule
         → (can : CanWalk (S.told shelf.old) (FailedUnder (S.faults shelf.old) (S.faults shelf.new)) codec schedule)
         → (Rose (K.faults out.old) (K.faults out.new) → ⊥)
-        → ServesBringUp walk_format can.machine can.plans can.schedule
+        → ServesBringUp kind.Analog walk_format can.machine can.plans can.schedule
         → EndsSo (WalksSo can.machine can.plans can.schedule) result.play result.status }
     ensures play_served { (codec wav schedule : List ℕ) (periods period : ℕ) (geometry : Geometry)
         → IsPlayOf (map string_bytes words.now) codec wav schedule periods period
-        → (can : CanPlay (S.told shelf.old) (FailedUnder (S.faults shelf.old) (S.faults shelf.new)) codec wav schedule
-        periods period)
+        → (can : CanPlay kind.Analog (S.told shelf.old) (FailedUnder (S.faults shelf.old) (S.faults shelf.new)) codec
+        wav schedule periods period)
         → (Rose (K.faults out.old) (K.faults out.new) → ⊥) → IsRingOf periods period can.machine can.head geometry
-        → ServesPlay can.head.format can.machine can.plans geometry can.schedule
-        → EndsSo (PlaysSo can.machine can.plans can.head can.schedule) result.play result.status }
+        → ServesPlay kind.Analog can.head.format can.machine can.plans geometry can.schedule
+        → EndsSo (PlaysSo kind.Analog can.machine can.plans can.head can.schedule) result.play result.status }
     ensures play_served_whole { (codec wav schedule : List ℕ) (periods period : ℕ) (geometry : Geometry)
         → IsPlayOf (map string_bytes words.now) codec wav schedule periods period
-        → (can : CanPlay (S.told shelf.old) (FailedUnder (S.faults shelf.old) (S.faults shelf.new)) codec wav schedule
-        periods period)
+        → (can : CanPlay kind.Analog (S.told shelf.old) (FailedUnder (S.faults shelf.old) (S.faults shelf.new)) codec
+        wav schedule periods period)
         → (Rose (K.faults out.old) (K.faults out.new) → ⊥) → IsRingOf periods period can.machine can.head geometry
-        → ServesPlay can.head.format can.machine can.plans geometry can.schedule
-        → EndsSo (PlaysWhole can.machine can.plans can.head geometry can.schedule) result.play result.status }
+        → ServesPlay kind.Analog can.head.format can.machine can.plans geometry can.schedule
+        → EndsSo (PlaysWhole kind.Analog can.machine can.plans can.head geometry can.schedule) result.play
+        result.status }
+    ensures spdif_served { (codec wav schedule : List ℕ) (periods period : ℕ) (geometry : Geometry)
+        → IsSpdifOf (map string_bytes words.now) codec wav schedule periods period
+        → (can : CanPlay kind.Digital (S.told shelf.old) (FailedUnder (S.faults shelf.old) (S.faults shelf.new)) codec
+        wav schedule periods period)
+        → (Rose (K.faults out.old) (K.faults out.new) → ⊥) → IsRingOf periods period can.machine can.head geometry
+        → ServesPlay kind.Digital can.head.format can.machine can.plans geometry can.schedule
+        → EndsSo (PlaysSo kind.Digital can.machine can.plans can.head can.schedule) result.play result.status }
+    ensures spdif_served_whole { (codec wav schedule : List ℕ) (periods period : ℕ) (geometry : Geometry)
+        → IsSpdifOf (map string_bytes words.now) codec wav schedule periods period
+        → (can : CanPlay kind.Digital (S.told shelf.old) (FailedUnder (S.faults shelf.old) (S.faults shelf.new)) codec
+        wav schedule periods period)
+        → (Rose (K.faults out.old) (K.faults out.new) → ⊥) → IsRingOf periods period can.machine can.head geometry
+        → ServesPlay kind.Digital can.head.format can.machine can.plans geometry can.schedule
+        → EndsSo (PlaysWhole kind.Digital can.machine can.plans can.head geometry can.schedule) result.play
+        result.status }
 
     // The shelf is asked under the names of the words alone.
     ensures asked { AsksForItsFiles (map string_bytes words.now) (S.asked shelf.old) (S.asked shelf.new) }

@@ -15,6 +15,7 @@ use hda_files::Machine;
 use hda_outside::Shelf;
 use laws_start::read_machines_are_whole;
 use program_runs::{walk, walk_format};
+use route_planner::PinKind;
 use schedule_reader::Schedule;
 use std::alloc::{AllocError, Global};
 
@@ -80,7 +81,12 @@ fn walk_schedule(alloc: Global, machine: Machine, schedule: &Schedule) -> Result
     ensures { IfOk result (λ answer. ScheduleAnswers machine schedule.now (answer_meant answer)) }
 {
     read_machines_are_whole();
-    let plans = plans_of(alloc, machine.codecs.as_slice(), walk_format())?;
+    let plans = plans_of(
+        alloc,
+        PinKind::Analog,
+        machine.codecs.as_slice(),
+        walk_format(),
+    )?;
     if have_route(plans.as_slice()) {
         Ok(Answer::Run(walk(alloc, machine, plans, schedule)?))
     } else {

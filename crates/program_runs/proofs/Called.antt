@@ -5,9 +5,6 @@ use Rattle.wav_reader.proofs.Callers.{same_before, ends_filled}
 use Rattle.program_runs.specs.Feeding.{IsFilledUp}
 use Rattle.program_runs.specs.Going.{Player, sounded}
 use Rattle.std.specs.Prelude.{OnOk, Result, Ok, Err}
-use Rattle.verb_codes.specs.declared.verbs.Command.{Command}
-use Rattle.codec_graph.specs.declared.raw.RawCodec.{RawCodec}
-use Rattle.route_planner.specs.declared.routes.Plan.{Plan}
 use Rattle.route_setup.specs.Means.{Means}
 use Rattle.hda_world.specs.Tellings.{Telling}
 use Rattle.driver_bring_up.specs.Calls.{Leads, IsKept}

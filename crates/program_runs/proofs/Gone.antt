@@ -4,9 +4,6 @@ use Rattle.std.specs.Prelude.{All, drop}
 use Rattle.codec_graph.specs.declared.raw.RawCodec.{RawCodec}
 use Rattle.stream_format.specs.declared.format.Format.{Format}
 use Rattle.route_planner.specs.declared.routes.Plan.{Plan}
-use Rattle.route_planner.specs.Plans.{IsPlan}
-use Rattle.setup_verbs.specs.VerbList.{setup_verbs}
-use Rattle.setup_verbs.specs.SetUp.{IsSetUp}
 use Rattle.hda_files.specs.declared.machine.Machine.{Machine}
 use Rattle.schedule_reader.specs.declared.schedule.Schedule.{Schedule}
 use Rattle.schedule_reader.specs.Schedules.{IsLimited}
@@ -30,7 +27,7 @@ use Rattle.driver_bring_up.specs.Counted.{IsCount}
 use Rattle.driver_bring_up.specs.Jacks.{Counts}
 use Rattle.driver_bring_up.specs.declared.bringing.BringUp.{BringUp}
 use Rattle.driver_bring_up.specs.Standing.{answers_of}
-use Rattle.route_setup.specs.Means.{analog}
+use Rattle.route_setup.specs.Means.{StreamMeaning}
 use Rattle.laws_bring_up.specs.Standing.{IsTaskOfCodecs, AreWalked, WalkedIn}
 use Rattle.laws_stream.specs.Resting.{Rests, AreApartFrom}
 use Rattle.audio_driver.specs.States.{phase_if, played_as, IsTaskOf, state_with}
@@ -40,7 +37,7 @@ use Rattle.laws_driver.specs.Keeping.{DriverHasGone}
 use Rattle.rig.specs.Follows.{Follows}
 use Rattle.rig.specs.Replays.{start_of, telling_from}
 use Rattle.heard_lists.specs.Listings.{graphs_in}
-use Rattle.laws_start.specs.Tasks.{verbs_by, verbs_in, task_of, blocks_of, stream_tag}
+use Rattle.laws_start.specs.Tasks.{verbs_meant, task_meant, blocks_of, stream_tag}
 use Rattle.laws_start.specs.Starting.{BeginsAt}
 use Rattle.driver_progress.specs.States.{State}
 use Rattle.program_runs.specs.Lines.{lines_of}
@@ -58,9 +55,9 @@ pub some_same : {A : Type 0} {one other : A} → Some one ≡ Some other → one
 some_same {A} {one} {other} same = cc
 
 -- a driver that was just opened can begin its task over a machine
-pub record CanGo (machine : Machine) (format : Format) (plans : List Plan) (play : Bool) (task : Task) (parts : Parts) : Type 0 where
-  pub is : IsTask analog format play (verbs_in format machine.codecs plans) (graphs_in machine.codecs) task
-  pub begins : BeginsAt (analog format stream_tag) machine plans task parts.bring_up
+pub record CanGo (means : StreamMeaning) (machine : Machine) (format : Format) (plans : List Plan) (play : Bool) (task : Task) (parts : Parts) : Type 0 where
+  pub is : IsTask means format play (verbs_meant (means format stream_tag) machine.codecs plans) (graphs_in machine.codecs) task
+  pub begins : BeginsAt (means format stream_tag) machine plans task parts.bring_up
   pub sound : task.plays ≡ true → IsTaskOf parts.bring_up parts.writer parts.supply task
   pub fresh : tally_in parts ≡ tally_opened
   pub apart : AreApartFrom (ring_in parts) parts.bring_up.engine.rirb.address
@@ -69,12 +66,12 @@ pub record CanGo (machine : Machine) (format : Format) (plans : List Plan) (play
   pub jacks : IsCount [] parts.bring_up.jacks
 
 -- with this journal it ran the schedule and was closed: of the last events, in which the device made no step, it is known what was heard
-pub record Gone (machine : Machine) (format : Format) (play : Bool) (task : Task) (schedule : Schedule) (old : Parts) (closed : Closed) (journal : List Event) : Type 0 where
+pub record Gone (means : StreamMeaning) (machine : Machine) (format : Format) (play : Bool) (task : Task) (schedule : Schedule) (old : Parts) (closed : Closed) (journal : List Event) : Type 0 where
   pub ended : BringUp
   pub tally : Tally
   pub last : List Event
   pub no_steps : All IsNoStep last
-  pub has : DriverHasGone (analog format TAG) (graphs_in machine.codecs) task (lines_of schedule) ended tally last (telling_from REGION_BYTES machine journal)
+  pub has : DriverHasGone (means format TAG) (graphs_in machine.codecs) task (lines_of schedule) ended tally last (telling_from REGION_BYTES machine journal)
   pub leaves : Leaves play old ended tally closed
   -- the journal replays from the machine's start, and follows the schedule
   pub replays : AreHonest journal (start_of REGION_BYTES machine)
@@ -95,12 +92,12 @@ opened_tally geometry most bring_up writer opened =
     ∙ ap (λ (course : Course). tally_with [] [] course) opened.course
 
 -- it can begin its task
-pub opened_can_go : (machine : Machine) (format : Format) (plans : List Plan) (geometry : Geometry) (most : ℕ) (play plays : Bool) (pcm : List ℕ) (bring_up : BringUp) (writer : WriterState) (supply : List ℕ) → play ≡ plays
+pub opened_can_go : (means : StreamMeaning) (machine : Machine) (format : Format) (plans : List Plan) (geometry : Geometry) (most : ℕ) (play plays : Bool) (pcm : List ℕ) (bring_up : BringUp) (writer : WriterState) (supply : List ℕ) → play ≡ plays
     → (plays ≡ true → supply ≡ pcm) → IsOpened geometry most bring_up writer → AreApartFrom (ring_of writer) bring_up.engine.rirb.address → geometry.fifo ≡ machine.fifo → geometry.format ≡ format
-    → IsTaskOfCodecs (analog format TAG) (verbs_in format machine.codecs plans) (graphs_in machine.codecs) (task_of format machine plans geometry plays pcm (blocks_of bring_up writer))
-    → BeginsAt (analog format stream_tag) machine plans (task_of format machine plans geometry plays pcm (blocks_of bring_up writer)) bring_up → Rests machine.fifo (start_of REGION_BYTES machine)
-    → CanGo machine format plans play (task_of format machine plans geometry plays pcm (blocks_of bring_up writer)) (parts_with bring_up writer supply)
-opened_can_go machine format plans geometry most play plays pcm bring_up writer supply same sound opened apart fifo format_is of_codecs begins rests = record {
+    → IsTaskOfCodecs (means format TAG) (verbs_meant (means format stream_tag) machine.codecs plans) (graphs_in machine.codecs) (task_meant (means format stream_tag) machine plans geometry plays pcm (blocks_of bring_up writer))
+    → BeginsAt (means format stream_tag) machine plans (task_meant (means format stream_tag) machine plans geometry plays pcm (blocks_of bring_up writer)) bring_up → Rests machine.fifo (start_of REGION_BYTES machine)
+    → CanGo means machine format plans play (task_meant (means format stream_tag) machine plans geometry plays pcm (blocks_of bring_up writer)) (parts_with bring_up writer supply)
+opened_can_go means machine format plans geometry most play plays pcm bring_up writer supply same sound opened apart fifo format_is of_codecs begins rests = record {
   is = record { of_codecs = of_codecs; plays_is = sym same };
   begins = begins;
   sound = λ some. record {
@@ -126,9 +123,9 @@ short_from machine schedule journal follows limited =
     let none : (start_of REGION_BYTES machine).frames ≡ 0 = refl in
     omega (arith, all, few, none)
 
-module _ (keeps : (format : Format) → Keeps analog format) (machine : Machine) (format : Format) (plans : List Plan) (play : Bool) (task : Task) (schedule : Schedule) (old : Parts) (closed : Closed) (before after : Telling) (journal : List Event)
-    (can : CanGo machine format plans play task old) (limited : IsLimited schedule) (at : Some before ≡ Some (telling_from REGION_BYTES machine [])) (told : journal ≡ after.journal)
-    (driven : IsDriven analog format play schedule old closed before after) where
+module _ (means : StreamMeaning) (keeps : (format : Format) → Keeps means format) (machine : Machine) (format : Format) (plans : List Plan) (play : Bool) (task : Task) (schedule : Schedule) (old : Parts) (closed : Closed) (before after : Telling) (journal : List Event)
+    (can : CanGo means machine format plans play task old) (limited : IsLimited schedule) (at : Some before ≡ Some (telling_from REGION_BYTES machine [])) (told : journal ≡ after.journal)
+    (driven : IsDriven means format play schedule old closed before after) where
   start : before ≡ telling_from REGION_BYTES machine []
   start = some_same at
 
@@ -144,20 +141,20 @@ module _ (keeps : (format : Format) → Keeps analog format) (machine : Machine)
   follows : Follows schedule journal
   follows = subst (Follows schedule) whole driven.follows
 
-  first : UnderWay analog format (verbs_in format machine.codecs plans) (graphs_in machine.codecs) task (lines_of schedule) (lines_of schedule) old (telling_from REGION_BYTES machine [])
+  first : UnderWay means format (verbs_meant (means format stream_tag) machine.codecs plans) (graphs_in machine.codecs) task (lines_of schedule) (lines_of schedule) old (telling_from REGION_BYTES machine [])
   first =
-      (keeps format (verbs_in format machine.codecs plans) (graphs_in machine.codecs) task can.is.of_codecs).begins (lines_of schedule) old (telling_from REGION_BYTES machine []) refl can.begins.state can.begins.stands
+      (keeps format (verbs_meant (means format stream_tag) machine.codecs plans) (graphs_in machine.codecs) task can.is.of_codecs).begins (lines_of schedule) old (telling_from REGION_BYTES machine []) refl can.begins.state can.begins.stands
       can.fresh can.sound can.apart can.rests
 
-  under_way : UnderWay analog format (verbs_in format machine.codecs plans) (graphs_in machine.codecs) task (lines_of schedule) (lines_of schedule) old before
-  under_way = subst (λ (telling : Telling). UnderWay analog format (verbs_in format machine.codecs plans) (graphs_in machine.codecs) task (lines_of schedule) (lines_of schedule) old telling) (sym start) first
+  under_way : UnderWay means format (verbs_meant (means format stream_tag) machine.codecs plans) (graphs_in machine.codecs) task (lines_of schedule) (lines_of schedule) old before
+  under_way = subst (λ (telling : Telling). UnderWay means format (verbs_meant (means format stream_tag) machine.codecs plans) (graphs_in machine.codecs) task (lines_of schedule) (lines_of schedule) old telling) (sym start) first
 
-  has_gone : DriverHasGone (analog format TAG) (graphs_in machine.codecs) task (lines_of schedule) driven.ended driven.tally driven.last (telling_from REGION_BYTES machine journal)
-  has_gone = subst (λ (telling : Telling). DriverHasGone (analog format TAG) (graphs_in machine.codecs) task (lines_of schedule) driven.ended driven.tally driven.last telling) end_is
-      (driven.over (verbs_in format machine.codecs plans) (graphs_in machine.codecs) task (lines_of schedule) can.is
+  has_gone : DriverHasGone (means format TAG) (graphs_in machine.codecs) task (lines_of schedule) driven.ended driven.tally driven.last (telling_from REGION_BYTES machine journal)
+  has_gone = subst (λ (telling : Telling). DriverHasGone (means format TAG) (graphs_in machine.codecs) task (lines_of schedule) driven.ended driven.tally driven.last telling) end_is
+      (driven.over (verbs_meant (means format stream_tag) machine.codecs plans) (graphs_in machine.codecs) task (lines_of schedule) can.is
       (subst IsShort (sym end_is) (short_from machine schedule journal follows limited)) under_way)
 
-  gone_so : Gone machine format play task schedule old closed journal
+  gone_so : Gone means machine format play task schedule old closed journal
   gone_so = record {
     ended = driven.ended;
     tally = driven.tally;
@@ -178,19 +175,19 @@ module _ (keeps : (format : Format) → Keeps analog format) (machine : Machine)
       let runs = ap written_by driven.leaves.runs in
       omega (arith, most, is, runs)
 
-pub gone : ((format : Format) → Keeps analog format) → (machine : Machine) (format : Format) (plans : List Plan) (play : Bool) (task : Task) (schedule : Schedule) (old : Parts) (closed : Closed) (before after : Telling) (journal : List Event)
-    → CanGo machine format plans play task old → IsLimited schedule → Some before ≡ Some (telling_from REGION_BYTES machine []) → journal ≡ after.journal
-    → IsDriven analog old.bring_up.agenda.format play schedule old closed before after → Gone machine format play task schedule old closed journal
-gone keeps machine format plans play task schedule old closed before after journal can limited at told drives =
-    gone_so keeps machine format plans play task schedule old closed before after journal can limited at told (subst (λ (f : Format). IsDriven analog f play schedule old closed before after) can.format_is drives)
+pub gone : (means : StreamMeaning) → ((format : Format) → Keeps means format) → (machine : Machine) (format : Format) (plans : List Plan) (play : Bool) (task : Task) (schedule : Schedule) (old : Parts) (closed : Closed) (before after : Telling) (journal : List Event)
+    → CanGo means machine format plans play task old → IsLimited schedule → Some before ≡ Some (telling_from REGION_BYTES machine []) → journal ≡ after.journal
+    → IsDriven means old.bring_up.agenda.format play schedule old closed before after → Gone means machine format play task schedule old closed journal
+gone means keeps machine format plans play task schedule old closed before after journal can limited at told drives =
+    gone_so means keeps machine format plans play task schedule old closed before after journal can limited at told (subst (λ (f : Format). IsDriven means f play schedule old closed before after) can.format_is drives)
 
 -- what was used at the last call was written by the recorded runs
-pub used_in_runs : ((format : Format) → Keeps analog format) → (machine : Machine) (format : Format) (plans : List Plan) (play : Bool) (task : Task) (schedule : Schedule) (old : Parts) (closed : Closed) (before after : Telling) (journal : List Event)
-    → CanGo machine format plans play task old → IsLimited schedule → Some before ≡ Some (telling_from REGION_BYTES machine []) → journal ≡ after.journal
-    → (drives : IsDriven analog old.bring_up.agenda.format play schedule old closed before after) → (used : ℕ) → used ≤ drives.tally.course.used → used ≤ written_by closed.runs.items
-used_in_runs keeps machine format plans play task schedule old closed before after journal can limited at told =
-    subst (λ (f : Format). (drives : IsDriven analog f play schedule old closed before after) → (used : ℕ) → used ≤ drives.tally.course.used → used ≤ written_by closed.runs.items) (sym can.format_is)
-    (used_so keeps machine format plans play task schedule old closed before after journal can limited at told)
+pub used_in_runs : (means : StreamMeaning) → ((format : Format) → Keeps means format) → (machine : Machine) (format : Format) (plans : List Plan) (play : Bool) (task : Task) (schedule : Schedule) (old : Parts) (closed : Closed) (before after : Telling) (journal : List Event)
+    → CanGo means machine format plans play task old → IsLimited schedule → Some before ≡ Some (telling_from REGION_BYTES machine []) → journal ≡ after.journal
+    → (drives : IsDriven means old.bring_up.agenda.format play schedule old closed before after) → (used : ℕ) → used ≤ drives.tally.course.used → used ≤ written_by closed.runs.items
+used_in_runs means keeps machine format plans play task schedule old closed before after journal can limited at told =
+    subst (λ (f : Format). (drives : IsDriven means f play schedule old closed before after) → (used : ℕ) → used ≤ drives.tally.course.used → used ≤ written_by closed.runs.items) (sym can.format_is)
+    (used_so means keeps machine format plans play task schedule old closed before after journal can limited at told)
 
 -- ---- in which phase it ends
 
@@ -198,7 +195,7 @@ failed_if : (started : Bool) (phase : Phase) (tally : Tally) → started ≡ fal
 failed_if true phase tally none well = cc
 failed_if false phase tally none well = well
 
-module _ (machine : Machine) (format : Format) (play : Bool) (task : Task) (schedule : Schedule) (old : Parts) (closed : Closed) (journal : List Event) (gone : Gone machine format play task schedule old closed journal) where
+module _ (means : StreamMeaning) (machine : Machine) (format : Format) (play : Bool) (task : Task) (schedule : Schedule) (old : Parts) (closed : Closed) (journal : List Event) (gone : Gone means machine format play task schedule old closed journal) where
   -- the phase that is left is that of the state to which the journal leads
   pub phase_left : closed.phase ≡ (state_with gone.ended gone.tally).phase
   phase_left = gone.leaves.phase

@@ -1,5 +1,6 @@
 -- How many verbs set a codec up at most, and how many widgets it has.
-use Rattle.route_planner.specs.declared.pin_kind.PinKind.TheVariants.{Analog}
+use Rattle.route_planner.specs.declared.pin_kind.PinKind.{PinKind}
+use Rattle.route_planner.specs.declared.pin_kind.PinKind.TheVariants.{Analog, Digital}
 use Rattle.std.proofs.Common.{◌≡◌, ◌≤◌, ◌+◌, ◌*◌, ◌&&◌, ◌++◌, ℕ, zero, suc, Bool, true, false, not, cond, List, [], length, map, Option, Some, None, refl, arith, length-append}
 use Rattle.std.specs.List.{range_with_len}
 use Rattle.std.proofs.lemmas.List.{length-map}
@@ -17,7 +18,7 @@ use Rattle.route_planner.specs.declared.routes.Plan.{Plan}
 use Rattle.route_planner.proofs.Callers.{IsBounded-from_sound}
 use Rattle.setup_verbs.specs.Roles.{role_of, is_used}
 use Rattle.program_runs.proofs.Given.{role_of_plan}
-use Rattle.setup_verbs.specs.VerbList.{only_if, has_choice, pass_input, pin_control, event_tag, power_verbs, silence_verbs, release_verbs, source_verbs, mixer_input, mixer_verbs, select_verbs, selector_verbs, output_verbs, pin_verbs, passed_verbs, route_verbs, commands_to, command_to, to_below, to_all, at_widget, step_at, step, setup_verbs, setup_verbs_as}
+use Rattle.setup_verbs.specs.VerbList.{only_if, has_choice, pass_input, pin_control, event_tag, power_verbs, silence_verbs, release_verbs, enable_verbs, source_verbs, source_verbs_as, mixer_input, mixer_verbs, select_verbs, selector_verbs, output_verbs, pin_verbs, digital_pin_verbs, passed_verbs, passed_verbs_as, route_verbs, commands_to, command_to, to_below, to_all, at_widget, step_at, step, setup_verbs_as}
 
 few_if : (applies : Bool) (verb : Verb) → length (only_if applies verb) ≤ 1
 few_if true verb = omega arith
@@ -63,15 +64,39 @@ few_passed codec plan nid node index short =
         let fourth = length-append output pin in
         omega (arith, first, second, third, fourth, a, b, c, d, e, short)
 
-few_source : (codec : RawCodec) (format : Format) (tag pair : ℕ) (node : RawNode) → length (source_verbs format tag pair ++ output_verbs codec node) ≤ 70
-few_source codec format tag pair node =
-    let output = few_output codec node in
-    let all = length-append (source_verbs format tag pair) (output_verbs codec node) in
-    omega (arith, all, output)
+few_digital_pin : (node : RawNode) → length (digital_pin_verbs node) ≤ 2
+few_digital_pin node =
+    let amplified = few_if (has_eapd node) (SetEapd 0x02) in
+    let enabled = few_if (is_pin node) (SetPin 0x40) in
+    let both = length-append (only_if (has_eapd node) (SetEapd 0x02)) (only_if (is_pin node) (SetPin 0x40)) in
+    omega (arith, amplified, enabled, both)
 
-few_route : (codec : RawCodec) (plan : Plan) (format : Format) (tag nid : ℕ) (node : RawNode) → length node.list ≤ 64 → length (route_verbs Analog codec plan format tag nid node (role_of plan nid)) ≤ 70
-few_route codec plan format tag nid node short =
-    role_of_plan plan nid (λ role. length (route_verbs Analog codec plan format tag nid node role) ≤ 70) (omega arith) (λ index. few_passed codec plan nid node index short) (λ pair. few_source codec format tag pair node)
+few_passed_as : (kind : PinKind) (codec : RawCodec) (plan : Plan) (nid : ℕ) (node : RawNode) (index : ℕ) → length node.list ≤ 64 → length (passed_verbs_as kind codec plan nid node index) ≤ 70
+few_passed_as Analog codec plan nid node index short = few_passed codec plan nid node index short
+few_passed_as Digital codec plan nid node index short =
+    let select = few_select node index in
+    let output = few_output codec node in
+    let pin = few_digital_pin node in
+    let first = length-append (select_verbs node index) (output_verbs codec node ++ digital_pin_verbs node) in
+    let second = length-append (output_verbs codec node) (digital_pin_verbs node) in
+    omega (arith, select, output, pin, first, second)
+
+few_enable : (kind : PinKind) → length (enable_verbs kind) ≤ 1
+few_enable Analog = omega arith
+few_enable Digital = omega arith
+
+few_source : (kind : PinKind) (codec : RawCodec) (format : Format) (tag pair : ℕ) (node : RawNode) → length (source_verbs_as kind format tag pair ++ output_verbs codec node) ≤ 70
+few_source kind codec format tag pair node =
+    let output = few_output codec node in
+    let enable = few_enable kind in
+    let source = length-append (source_verbs format tag pair) (enable_verbs kind) in
+    let all = length-append (source_verbs_as kind format tag pair) (output_verbs codec node) in
+    omega (arith, all, source, enable, output)
+
+few_route : (kind : PinKind) (codec : RawCodec) (plan : Plan) (format : Format) (tag nid : ℕ) (node : RawNode) → length node.list ≤ 64 → length (route_verbs kind codec plan format tag nid node (role_of plan nid)) ≤ 70
+few_route kind codec plan format tag nid node short =
+    role_of_plan plan nid (λ role. length (route_verbs kind codec plan format tag nid node role) ≤ 70) (omega arith) (λ index. few_passed_as kind codec plan nid node index short)
+    (λ pair. few_source kind codec format tag pair node)
 
 -- ---- all nodes
 
@@ -109,18 +134,18 @@ few_silence codec plan nid node is = (let few : length (silence_verbs node (role
 few_release : (codec : RawCodec) (plan : Plan) → AreFew codec (role_of plan) (λ _. release_verbs)
 few_release codec plan nid node is = (let few : length (release_verbs node (role_of plan nid)) ≤ 1 = few_if (not (is_used (role_of plan nid)) && is_output_converter node) (SetStream 0) in omega (arith, few))
 
-few_routes : (codec : RawCodec) (plan : Plan) (format : Format) (tag : ℕ) → IsWellFormed codec → AreFew codec (role_of plan) (route_verbs Analog codec plan format tag)
-few_routes codec plan format tag well nid node is =
+few_routes : (kind : PinKind) (codec : RawCodec) (plan : Plan) (format : Format) (tag : ℕ) → IsWellFormed codec → AreFew codec (role_of plan) (route_verbs kind codec plan format tag)
+few_routes kind codec plan format tag well nid node is =
     let bounded = IsBounded-from_sound codec well.tables in
-    few_route codec plan format tag nid node (rw is at (bounded.short nid))
+    few_route kind codec plan format tag nid node (rw is at (bounded.short nid))
 
 -- so many verbs set a codec up at most
-pub few_setup : (codec : RawCodec) (plan : Plan) (format : Format) (tag : ℕ) → IsWellFormed codec → length (setup_verbs codec plan format tag) ≤ 40000
+pub few_setup : (kind : PinKind) (codec : RawCodec) (plan : Plan) (format : Format) (tag : ℕ) → IsWellFormed codec → length (setup_verbs_as kind codec plan format tag) ≤ 40000
 unfolding setup_verbs_as
-few_setup codec plan format tag well =
-    four (step codec plan (λ _. power_verbs)) (step codec plan (λ _. silence_verbs)) (step codec plan (λ _. release_verbs)) (step codec plan (route_verbs Analog codec plan format tag))
+few_setup kind codec plan format tag well =
+    four (step codec plan (λ _. power_verbs)) (step codec plan (λ _. silence_verbs)) (step codec plan (λ _. release_verbs)) (step codec plan (route_verbs kind codec plan format tag))
     (few_step codec plan (λ _. power_verbs) (few_power codec plan)) (few_step codec plan (λ _. silence_verbs) (few_silence codec plan)) (few_step codec plan (λ _. release_verbs) (few_release codec plan))
-    (few_step codec plan (route_verbs Analog codec plan format tag) (few_routes codec plan format tag well))
+    (few_step codec plan (route_verbs kind codec plan format tag) (few_routes kind codec plan format tag well))
   where
     four : (power silence release route : List Command) → length power ≤ 8960 → length silence ≤ 8960 → length release ≤ 8960 → length route ≤ 8960
         → suc (length (power ++ (silence ++ (release ++ route)))) ≤ 40000

@@ -1,5 +1,5 @@
 -- The link frames of journals: how many are counted, and that WALCLK does not wrap meanwhile.
-use Rattle.std.proofs.Common.{◌≡◌, ◌≤◌, ◌+◌, ℕ, true, List, [], ◌∷◌, ◌++◌, length, map, drop, All, refl, sym, ap, subst, ◌∙◌, arith}
+use Rattle.std.proofs.Common.{◌≡◌, ◌≤◌, ◌+◌, ℕ, true, List, [], ◌∷◌, ◌++◌, length, map, drop, All, refl, sym, ap, ◌∙◌, arith}
 use Rattle.std.specs.Prelude.{sum_by}
 use Rattle.std.specs.List.{flat_map}
 use Rattle.std.proofs.lemmas.List.Sums.{sum_by-cons, sum_by-append}
@@ -13,7 +13,7 @@ use Rattle.schedule_reader.specs.declared.schedule.Schedule.{Schedule}
 use Rattle.schedule_reader.specs.Counts.{items_of, step_frames, group_frames, item_frames, frames_of}
 use Rattle.schedule_reader.specs.Schedules.{most_frames}
 use Rattle.hda_world.specs.Worlds.{World}
-use Rattle.hda_world.specs.Events.{Event, Stepped, Begin, End, Read, Write, DmaRead, DmaWrite, happens, after}
+use Rattle.hda_world.specs.Events.{Event, Stepped, Begin, End, happens, after}
 use Rattle.hda_world.specs.Tellings.{Telling, Went, world_of}
 use Rattle.period_writer.specs.Outcomes.{HasNotWrapped}
 use Rattle.laws_stream.specs.Lives.{Along}

@@ -1,5 +1,5 @@
 -- The commands of a machine go to its codecs.
-use Rattle.route_planner.specs.declared.pin_kind.PinKind.TheVariants.{Analog}
+use Rattle.route_planner.specs.declared.pin_kind.PinKind.{PinKind}
 use Rattle.std.proofs.Common.{◌≤◌, ◌<◌, ◌^◌, ℕ, List, [], ◌∷◌, map, sym, subst, arith, lit≤}
 use Rattle.std.specs.Prelude.{All, Contains}
 use Rattle.std.proofs.lemmas.List.Elements.{All-nil, All-cons, All-head, All-tail, All-append, All-map, Contains-append_left, Contains-append_right, Contains-push}
@@ -18,8 +18,9 @@ use Rattle.hda_files.specs.Machines.{IsSoundCodec}
 use Rattle.heard_lists.specs.Listings.{graphs_in}
 use Rattle.driver_agenda.specs.Planned.{verbs_for}
 use Rattle.driver_progress.specs.Tasks.{order_of, walks_over}
-use Rattle.laws_start.specs.Tasks.{HavePlans, verbs_by, commands_of, stream_tag}
+use Rattle.laws_start.specs.Tasks.{stream_tag}
 use Rattle.laws_serving.specs.Runs.{IsOrderTo}
+use Rattle.program_runs.specs.Outputs.{HavePlansOf, verbs_by_as, commands_as}
 use Rattle.program_runs.specs.Served.{codec_address}
 
 -- ---- one command
@@ -72,24 +73,24 @@ walks_go codecs (graph ∷ graphs) well low among =
     (walk_goes_there codecs graph (All-head IsWellFormed graph graphs well) (All-head IsLow graph graphs low) (All-head (IsAmong codecs) graph graphs among))
     (walks_go codecs graphs (All-tail IsWellFormed graph graphs well) (All-tail IsLow graph graphs low) (All-tail (IsAmong codecs) graph graphs among))
 
-verbs_go : (codecs : List ℕ) (format : Format) (files : List CodecFile) (plans : List Plan) → HavePlans format files plans → All IsWellFormed (graphs_in files) → All IsLow (graphs_in files) → All (IsAmong codecs) (graphs_in files)
-    → All (Goes codecs) (verbs_for (verbs_by format) (graphs_in files) plans)
-verbs_go codecs format [] plans have well low among = All-nil (Goes codecs)
-verbs_go codecs format (file ∷ files) [] have well low among = absurd have
-verbs_go codecs format (file ∷ files) (plan ∷ plans) have well low among =
+verbs_go : (kind : PinKind) (codecs : List ℕ) (format : Format) (files : List CodecFile) (plans : List Plan) → HavePlansOf kind format files plans → All IsWellFormed (graphs_in files) → All IsLow (graphs_in files) → All (IsAmong codecs) (graphs_in files)
+    → All (Goes codecs) (verbs_for (verbs_by_as kind format) (graphs_in files) plans)
+verbs_go kind codecs format [] plans have well low among = All-nil (Goes codecs)
+verbs_go kind codecs format (file ∷ files) [] have well low among = absurd have
+verbs_go kind codecs format (file ∷ files) (plan ∷ plans) have well low among =
     let graph = file.graph in
     let here = All-head (IsAmong codecs) graph (graphs_in files) among in
     let below = All-head IsLow graph (graphs_in files) low in
-    let all = all_commands_of Analog graph plan format stream_tag (All-head IsWellFormed graph (graphs_in files) well) have.0 (lit≤ tt) in
-    All-append (Goes codecs) (verbs_by format graph plan) (verbs_for (verbs_by format) (graphs_in files) plans)
+    let all = all_commands_of kind graph plan format stream_tag (All-head IsWellFormed graph (graphs_in files) well) have.0 (lit≤ tt) in
+    All-append (Goes codecs) (verbs_by_as kind format graph plan) (verbs_for (verbs_by_as kind format) (graphs_in files) plans)
     (λ k command within. goes_to codecs _ (subst (Contains codecs) (sym (all k command within).address) here) ((all k command within).in_range below))
-    (verbs_go codecs format files plans have.1 (All-tail IsWellFormed graph (graphs_in files) well) (All-tail IsLow graph (graphs_in files) low) (All-tail (IsAmong codecs) graph (graphs_in files) among))
+    (verbs_go kind codecs format files plans have.1 (All-tail IsWellFormed graph (graphs_in files) well) (All-tail IsLow graph (graphs_in files) low) (All-tail (IsAmong codecs) graph (graphs_in files) among))
 
-pub orders_go : (format : Format) (files : List CodecFile) (plans : List Plan) → HavePlans format files plans → All IsWellFormed (graphs_in files) → All IsSoundCodec files
-    → All (IsOrderTo (map codec_address files)) (map order_of (commands_of format files plans))
-orders_go format files plans have well sound =
+pub orders_go : (kind : PinKind) (format : Format) (files : List CodecFile) (plans : List Plan) → HavePlansOf kind format files plans → All IsWellFormed (graphs_in files) → All IsSoundCodec files
+    → All (IsOrderTo (map codec_address files)) (map order_of (commands_as kind format files plans))
+orders_go kind format files plans have well sound =
     let codecs = map codec_address files in
     let low = all_low files sound in
     let among = all_among codecs files (λ address there. there) in
-    All-map (IsOrderTo codecs) order_of (commands_of format files plans)
-    (All-append (Goes codecs) (walks_over (graphs_in files)) (verbs_for (verbs_by format) (graphs_in files) plans) (walks_go codecs (graphs_in files) well low among) (verbs_go codecs format files plans have well low among))
+    All-map (IsOrderTo codecs) order_of (commands_as kind format files plans)
+    (All-append (Goes codecs) (walks_over (graphs_in files)) (verbs_for (verbs_by_as kind format) (graphs_in files) plans) (walks_go codecs (graphs_in files) well low among) (verbs_go kind codecs format files plans have well low among))

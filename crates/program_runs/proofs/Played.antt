@@ -6,6 +6,7 @@ use Rattle.std.proofs.lemmas.List.{get_or-map, length-map}
 use Rattle.stream_format.specs.declared.format.Format.{Format}
 use Rattle.stream_format.specs.Cadence.{block_bytes}
 use Rattle.codec_graph.specs.declared.raw.RawCodec.{RawCodec}
+use Rattle.route_planner.specs.declared.pin_kind.PinKind.{PinKind}
 use Rattle.route_planner.specs.declared.routes.Plan.{Plan}
 use Rattle.wav_reader.specs.declared.wav.Wav.{Wav}
 use Rattle.hda_files.specs.declared.machine.CodecFile.{CodecFile}
@@ -30,16 +31,16 @@ use Rattle.driver_progress.specs.Tasks.{Task, Blocks}
 use Rattle.driver_progress.specs.Phases.{walked_all}
 use Rattle.laws_stream.specs.Ending.{HearTheLine}
 use Rattle.driver_bring_up.specs.Standing.{answers_of}
-use Rattle.route_setup.specs.Means.{analog}
+use Rattle.digital_out.specs.Means.{outputs}
 use Rattle.laws_bring_up.specs.Standing.{AreWalked, WalkedIn}
 use Rattle.laws_driver.specs.Sounding.{Parts}
 use Rattle.laws_driver.specs.Keeping.{WasHeard, WasNeverHeard}
 use Rattle.sound_report.specs.declared.played.Played.{Played}
 use Rattle.rig.specs.Replays.{telling_from}
 use Rattle.heard_lists.specs.Listings.{graphs_in}
-use Rattle.laws_start.specs.Tasks.{HavePlans}
 use Rattle.program_runs.specs.Lines.{lines_of}
 use Rattle.program_runs.specs.Ends.{play_can_end}
+use Rattle.program_runs.specs.Outputs.{HavePlansOf}
 use Rattle.program_runs.specs.Histories.{MakesProgress, StaysOpen, journal_of, telling_of_run}
 use Rattle.program_runs.specs.FrameCounts.{written_by}
 use Rattle.program_runs.specs.Hearing.{HasPlayedAll, HearTheirs, lists_heard}
@@ -96,18 +97,18 @@ same_end was false phase all walked = sym (no_end phase all walked)
 -- ---- the run
 
 -- what is told of a run is that of the state to which its journal leads
-pub record IsDriven (machine : Machine) (plans : List Plan) (wav : Wav) (schedule : Schedule) (task : Task) (state : State) (telling : Telling) (played : Played) : Type 0 where
+pub record IsDriven (kind : PinKind) (machine : Machine) (plans : List Plan) (wav : Wav) (schedule : Schedule) (task : Task) (state : State) (telling : Telling) (played : Played) : Type 0 where
   pub progress : MakesProgress machine schedule task state telling played.graphs
-  pub opened : StaysOpen wav.format machine schedule task telling
+  pub opened : StaysOpen kind wav.format machine schedule task telling
   pub runs : AreRecorded schedule task state.phase state.tally telling played
-  pub heard : IsHeard machine plans wav state.tally (world_of telling).carried played.heard
+  pub heard : IsHeard kind machine plans wav state.tally (world_of telling).carried played.heard
   pub ends : play_can_end state.phase ≡ true
   pub fault : played.fault ≡ play_fault state.phase state.sent played.commands (block_bytes wav.format) played.total state.tally.runs state.tally.silences
 
-module _ (machine : Machine) (plans : List Plan) (wav : Wav) (geometry : Geometry) (blocks : Blocks) (schedule : Schedule) (old : Parts) (closed : Closed) (journal : List Event)
-    (gone : Gone machine wav.format true (played_task machine plans wav geometry blocks) schedule old closed journal) where
+module _ (kind : PinKind) (machine : Machine) (plans : List Plan) (wav : Wav) (geometry : Geometry) (blocks : Blocks) (schedule : Schedule) (old : Parts) (closed : Closed) (journal : List Event)
+    (gone : Gone (outputs kind) machine wav.format true (played_task kind machine plans wav geometry blocks) schedule old closed journal) where
   abbrev task : Task
-  task = played_task machine plans wav geometry blocks
+  task = played_task kind machine plans wav geometry blocks
 
   abbrev telling : Telling
   telling = telling_from REGION_BYTES machine journal
@@ -117,8 +118,8 @@ module _ (machine : Machine) (plans : List Plan) (wav : Wav) (geometry : Geometr
   playing_ends = by gone.tally.course.started refl
     where
       by : (started : Bool) → gone.tally.course.started ≡ started → play_can_end closed.phase ≡ true
-      by true some = ap play_can_end (played_phase machine wav.format true task schedule old closed journal gone some) ∙ ran_ends gone.tally.course.ran
-      by false none = plays_too closed.phase (unplayed_ends machine wav.format true task schedule old closed journal gone none)
+      by true some = ap play_can_end (played_phase (outputs kind) machine wav.format true task schedule old closed journal gone some) ∙ ran_ends gone.tally.course.ran
+      by false none = plays_too closed.phase (unplayed_ends (outputs kind) machine wav.format true task schedule old closed journal gone none)
 
   -- no more was written than there is
   pub written_few : written_by closed.runs.items ≤ length wav.pcm
@@ -132,7 +133,7 @@ module _ (machine : Machine) (plans : List Plan) (wav : Wav) (geometry : Geometr
   carried = (world_of telling).carried
 
   abbrev Heard : Type 0
-  Heard = ((gone.tally ≡ tally_opened) × WasNeverHeard telling) ⊎ WasHeard (analog wav.format TAG) (graphs_in machine.codecs) task gone.tally gone.last telling
+  Heard = ((gone.tally ≡ tally_opened) × WasNeverHeard telling) ⊎ WasHeard (outputs kind wav.format TAG) (graphs_in machine.codecs) task gone.tally gone.last telling
 
   streamed : Heard → Lived (end_of_course gone.tally.course) gone.tally telling
   streamed (inl (none, never)) =
@@ -142,21 +143,21 @@ module _ (machine : Machine) (plans : List Plan) (wav : Wav) (geometry : Geometr
   end_is : end_of_course gone.tally.course ≡ end_in_phase (state_with gone.ended gone.tally).phase
   end_is = same_end gone.tally.course.ran gone.tally.course.started gone.ended.phase _ gone.has.ended_is.by_phase
 
-  hears_by : HavePlans wav.format machine.codecs plans → geometry.format ≡ wav.format → Heard → AllZip (HearTheirs wav.format wav.pcm gone.tally carried) machine.codecs plans
+  hears_by : HavePlansOf kind wav.format machine.codecs plans → geometry.format ≡ wav.format → Heard → AllZip (HearTheirs kind wav.format wav.pcm gone.tally carried) machine.codecs plans
   hears_by planned same (inl (none, never)) =
-      subst (λ (frames : List CarriedFrame). AllZip (HearTheirs wav.format wav.pcm gone.tally frames) machine.codecs plans) (sym never.none)
-      (subst (λ (tally : Tally). AllZip (HearTheirs wav.format wav.pcm tally []) machine.codecs plans) (sym none) (none_hear wav.format wav.pcm machine.codecs plans planned))
+      subst (λ (frames : List CarriedFrame). AllZip (HearTheirs kind wav.format wav.pcm gone.tally frames) machine.codecs plans) (sym never.none)
+      (subst (λ (tally : Tally). AllZip (HearTheirs kind wav.format wav.pcm tally []) machine.codecs plans) (sym none) (none_hear kind wav.format wav.pcm machine.codecs plans planned))
   hears_by planned same (inr was) =
       let hear = subst (λ (format : Format). HearTheLine was.codecs format wav.pcm gone.tally carried) same (was.hear gone.no_steps) in
-      all_hear wav.format wav.pcm gone.tally carried was.codecs hear machine.codecs plans planned (λ file has. was.set_up file.graph (graph_among machine.codecs file has))
+      all_hear kind wav.format wav.pcm gone.tally carried was.codecs hear machine.codecs plans planned (λ file has. was.set_up file.graph (graph_among machine.codecs file has))
 
   -- what is told of it is that of the run that is kept
-  pub driven : RunLaws → (played : Played) → journal_of played ≡ journal → geometry ≡ old.writer.geometry → geometry.format ≡ wav.format → HavePlans wav.format machine.codecs plans → played.graphs ≡ closed.graphs.items
-      → played.runs ≡ closed.runs.items → played.silences ≡ closed.silences.items → played.heard ≡ lists_heard carried machine.codecs plans
+  pub driven : RunLaws → (played : Played) → journal_of played ≡ journal → geometry ≡ old.writer.geometry → geometry.format ≡ wav.format → HavePlansOf kind wav.format machine.codecs plans → played.graphs ≡ closed.graphs.items
+      → played.runs ≡ closed.runs.items → played.silences ≡ closed.silences.items → played.heard ≡ lists_heard kind carried machine.codecs plans
       → played.fault ≡ play_fault closed.phase closed.sent played.commands (block_bytes wav.format) played.total closed.runs.items closed.silences.items
-      → IsDriven machine plans wav schedule task (state_with gone.ended gone.tally) (telling_of_run machine played) played
+      → IsDriven kind machine plans wav schedule task (state_with gone.ended gone.tally) (telling_of_run machine played) played
   driven laws played told ring format planned graphs runs silences heard fault =
-      subst (λ (events : List Event). IsDriven machine plans wav schedule task (state_with gone.ended gone.tally) (telling_from REGION_BYTES machine events) played) (sym told) (record {
+      subst (λ (events : List Event). IsDriven kind machine plans wav schedule task (state_with gone.ended gone.tally) (telling_from REGION_BYTES machine events) played) (sym told) (record {
         progress = record {
           progress = gone.has.progress;
           finds = gone.has.finds;
@@ -165,7 +166,7 @@ module _ (machine : Machine) (plans : List Plan) (wav : Wav) (geometry : Geometr
           all_walked = all_walked_if gone.tally.course.started gone.ended.phase gone.tally.course.ran (played.graphs ≡ graphs_in machine.codecs) gone.has.ready
               (subst (λ (walked : List RawCodec). WalkedIn gone.ended.phase (walked ≡ graphs_in machine.codecs)) (sym walked) gone.has.ended_is.by_phase);
         };
-        opened = stays_open wav.format machine schedule task telling gone.has.set_up;
+        opened = stays_open kind wav.format machine schedule task telling gone.has.set_up;
         runs = record {
           recorded = recorded;
           runs = runs ∙ gone.leaves.runs;
@@ -179,7 +180,7 @@ module _ (machine : Machine) (plans : List Plan) (wav : Wav) (geometry : Geometr
           hear = hears_by planned format gone.has.heard;
           whole = λ drained. subst (λ state. HasPlayedAll wav.pcm state.tally) gone.has.state_is (drained_whole task (lines_of schedule) telling (ap (λ state. state.tally.course.ran) gone.has.state_is ∙ drained));
         };
-        ends = subst (λ (phase : Phase). play_can_end phase ≡ true) (phase_left machine wav.format true task schedule old closed journal gone) playing_ends;
+        ends = subst (λ (phase : Phase). play_can_end phase ≡ true) (phase_left (outputs kind) machine wav.format true task schedule old closed journal gone) playing_ends;
         fault = fault ∙ fault_left;
       })
     where
@@ -193,7 +194,7 @@ module _ (machine : Machine) (plans : List Plan) (wav : Wav) (geometry : Geometr
           ≡ play_fault (state_with gone.ended gone.tally).phase gone.ended.sent played.commands (block_bytes wav.format) played.total gone.tally.runs gone.tally.silences
       fault_left =
           ap (λ (phase : Phase). play_fault phase closed.sent played.commands (block_bytes wav.format) played.total closed.runs.items closed.silences.items)
-          (phase_left machine wav.format true task schedule old closed journal gone)
+          (phase_left (outputs kind) machine wav.format true task schedule old closed journal gone)
           ∙ ap (λ (sent : ℕ). play_fault (state_with gone.ended gone.tally).phase sent played.commands (block_bytes wav.format) played.total closed.runs.items closed.silences.items) gone.leaves.sent
           ∙ ap (λ runs. play_fault (state_with gone.ended gone.tally).phase gone.ended.sent played.commands (block_bytes wav.format) played.total runs closed.silences.items) gone.leaves.runs
           ∙ ap (λ silences. play_fault (state_with gone.ended gone.tally).phase gone.ended.sent played.commands (block_bytes wav.format) played.total gone.tally.runs silences) gone.leaves.silences

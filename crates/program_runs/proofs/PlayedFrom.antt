@@ -1,9 +1,8 @@
 -- What a run that reads its sound while it plays played, and how much of it was read.
-use Rattle.std.proofs.Common.{◌≡◌, ◌≢◌, ◌≤◌, ◌<◌, ◌+◌, ◌-◌, ◌*◌, ◌/◌, ◌∙◌, ℕ, Bool, true, false, List, [], ◌++◌, length, Option, Some, None, refl, sym, ap, subst, arith, inl, inr}
+use Rattle.std.proofs.Common.{◌≡◌, ◌≢◌, ◌≤◌, ◌<◌, ◌+◌, ◌-◌, ◌*◌, ◌/◌, ◌∙◌, ℕ, List, [], ◌++◌, length, Option, Some, None, refl, sym, ap, subst, arith, inl, inr}
 use Rattle.std.proofs.Math.Nat.{div-le_of_le-mul, mul-le-mul_right, add-mul-div_right, zero-div}
 use Rattle.stream_format.specs.Cadence.{block_bytes}
 use Rattle.stream_format.specs.Layouts.{layout}
-use Rattle.stream_format.specs.declared.format.Format.{Format}
 use Rattle.hda_outside.specs.Counts.{Rose}
 use Rattle.hda_outside.specs.declared.pieces.Cut.{Cut}
 use Rattle.hda_outside.specs.declared.pieces.Cut.TheVariants.{Failed, Short, OutOfMemory}

@@ -1,7 +1,8 @@
 -- A run that reads its sound while it plays, as it is driven: over the sound that was read it has gone where a run goes.
-use Rattle.std.proofs.Common.{◌≡◌, ◌≤◌, ◌*◌, ◌∙◌, ◌+◌, ℕ, Bool, true, false, List, [], ◌++◌, length, Option, Some, None, refl, sym, ap, subst, arith}
+use Rattle.std.proofs.Common.{◌≡◌, ◌≤◌, ◌*◌, ◌+◌, ℕ, Bool, true, List, [], ◌++◌, length, Option, Some, None, refl, sym, ap, subst, arith}
 use Rattle.stream_format.specs.Cadence.{block_bytes}
 use Rattle.stream_format.specs.Layouts.{layout}
+use Rattle.route_planner.specs.declared.pin_kind.PinKind.{PinKind}
 use Rattle.route_planner.specs.declared.routes.Plan.{Plan}
 use Rattle.hda_files.specs.declared.machine.Machine.{Machine}
 use Rattle.hda_world.specs.declared.world.TheConstants.{REGION_BYTES}
@@ -18,7 +19,7 @@ use Rattle.period_writer.specs.declared.geometry.Geometry.{Geometry}
 use Rattle.period_writer.specs.Runs.{Measures, measures}
 use Rattle.period_writer.specs.Writers.{WriterState}
 use Rattle.driver_bring_up.specs.declared.bringing.BringUp.{BringUp}
-use Rattle.route_setup.specs.Means.{analog}
+use Rattle.digital_out.specs.Means.{outputs}
 use Rattle.audio_driver.specs.declared.driver.closing.Closed.{Closed}
 use Rattle.rig.specs.Rigs.{telling_of}
 use Rattle.rig.specs.Replays.{telling_from}
@@ -37,9 +38,9 @@ use Rattle.program_runs.proofs.PlayedFrom.{source_for, fed_at_open, later, may, 
 use Rattle.stream_format.proofs.Callers.{some_block as some_bytes}
 
 -- a driver that was opened for a sound of which no byte was read yet, over a machine at rest
-pub record CanPlayFrom (machine : Machine) (plans : List Plan) (head : WavHead) (name : List ℕ) (geometry : Geometry) (schedule : Schedule)
+pub record CanPlayFrom (kind : PinKind) (machine : Machine) (plans : List Plan) (head : WavHead) (name : List ℕ) (geometry : Geometry) (schedule : Schedule)
     (bring_up : BringUp) (writer : WriterState) (supply : Supplied) (play : Bool) (rig : Rig) : Type 0 where
-  pub keeps : (format : _) → Keeps analog format
+  pub keeps : (format : _) → Keeps (outputs kind) format
   pub plays : play ≡ true
   pub supply_is : supply ≡ first_supply (source_for name head (measures geometry).ring)
   pub ring_is : writer.geometry ≡ geometry
@@ -48,13 +49,13 @@ pub record CanPlayFrom (machine : Machine) (plans : List Plan) (head : WavHead) 
   pub within : head.from + head.frames * frame_length head.mono (layout head.format) ≤ head.length
   pub limited : IsLimited schedule
   pub start : Some (telling_of rig) ≡ Some (telling_from REGION_BYTES machine [])
-  pub can_go : (pcm : List ℕ) → CanGo machine head.format plans play (played_task machine plans (sound_with head pcm) geometry (blocks_of bring_up writer))
+  pub can_go : (pcm : List ℕ) → CanGo (outputs kind) machine head.format plans play (played_task kind machine plans (sound_with head pcm) geometry (blocks_of bring_up writer))
       (parts_with bring_up writer pcm)
 
-module _ (machine : Machine) (plans : List Plan) (head : WavHead) (name : List ℕ) (geometry : Geometry) (schedule : Schedule) (bring_up : BringUp) (writer : WriterState)
+module _ (kind : PinKind) (machine : Machine) (plans : List Plan) (head : WavHead) (name : List ℕ) (geometry : Geometry) (schedule : Schedule) (bring_up : BringUp) (writer : WriterState)
     (supply : Supplied) (play : Bool) (opened closed_rig : Rig) (first now : Shelves) (cut : Option Cut) (closed : Closed) (read : ℕ)
-    (can : CanPlayFrom machine plans head name geometry schedule bring_up writer supply play opened)
-    (driven : HasDriven analog bring_up.agenda.format play schedule (stand_of bring_up writer supply first None opened) closed read now cut (telling_of closed_rig)) where
+    (can : CanPlayFrom kind machine plans head name geometry schedule bring_up writer supply play opened)
+    (driven : HasDriven (outputs kind) bring_up.agenda.format play schedule (stand_of bring_up writer supply first None opened) closed read now cut (telling_of closed_rig)) where
   abbrev pub m : Measures
   m = measures geometry
 
@@ -84,41 +85,41 @@ module _ (machine : Machine) (plans : List Plan) (head : WavHead) (name : List �
   blocks = blocks_of bring_up writer
 
   abbrev pub task : Task
-  task = played_task machine plans wav geometry blocks
+  task = played_task kind machine plans wav geometry blocks
 
   abbrev pub parts : Parts
   parts = parts_with bring_up writer sound
 
-  may_end : IsDriven analog bring_up.agenda.format play schedule parts closed (telling_of opened) (telling_of closed_rig)
+  may_end : IsDriven (outputs kind) bring_up.agenda.format play schedule parts closed (telling_of opened) (telling_of closed_rig)
   may_end =
       driven.driven (later name head (measures geometry) driven.gave first now cut supply driven.last driven.course driven.took can.supply_is some_block streams)
       (may name head (measures geometry) driven.gave first now cut supply driven.last driven.course driven.took can.supply_is some_block streams)
       (ends name head (measures geometry) driven.gave first now cut supply driven.last driven.course driven.took can.supply_is some_block streams)
 
   -- where it has gone
-  pub over : Gone machine head.format true task schedule parts closed (telling_of closed_rig).journal
+  pub over : Gone (outputs kind) machine head.format true task schedule parts closed (telling_of closed_rig).journal
   over =
-      subst (λ (play : Bool). Gone machine head.format play task schedule parts closed (telling_of closed_rig).journal) can.plays
-      (gone can.keeps machine head.format plans play task schedule parts closed (telling_of opened) (telling_of closed_rig) (telling_of closed_rig).journal
+      subst (λ (play : Bool). Gone (outputs kind) machine head.format play task schedule parts closed (telling_of closed_rig).journal) can.plays
+      (gone (outputs kind) can.keeps machine head.format plans play task schedule parts closed (telling_of opened) (telling_of closed_rig) (telling_of closed_rig).journal
       (can.can_go sound) can.limited can.start refl may_end)
 
   -- what was taken until the last call was written by the recorded runs
   pub used : driven.course.used ≤ written_by closed.runs.items
   unfolding may_end
   used =
-      used_in_runs can.keeps machine head.format plans play task schedule parts closed (telling_of opened) (telling_of closed_rig) (telling_of closed_rig).journal
+      used_in_runs (outputs kind) can.keeps machine head.format plans play task schedule parts closed (telling_of opened) (telling_of closed_rig) (telling_of closed_rig).journal
       (can.can_go sound) can.limited can.start refl may_end driven.course.used
       (driven.grows (later name head (measures geometry) driven.gave first now cut supply driven.last driven.course driven.took can.supply_is some_block streams)
       (may name head (measures geometry) driven.gave first now cut supply driven.last driven.course driven.took can.supply_is some_block streams)
       (ends name head (measures geometry) driven.gave first now cut supply driven.last driven.course driven.took can.supply_is some_block streams))
 
   pub end_is : play_can_end closed.phase ≡ true
-  end_is = playing_ends machine plans wav geometry blocks schedule parts closed (telling_of closed_rig).journal over
+  end_is = playing_ends kind machine plans wav geometry blocks schedule parts closed (telling_of closed_rig).journal over
 
   -- a file has fewer bytes than 64 bits count
   pub few : written_by closed.runs.items ≤ 0xFFFFFFFFFFFFFFFF
   few =
-      let most = written_few machine plans wav geometry blocks schedule parts closed (telling_of closed_rig).journal over in
+      let most = written_few kind machine plans wav geometry blocks schedule parts closed (telling_of closed_rig).journal over in
       let all = long name head (measures geometry) driven.gave first now cut supply driven.last driven.course driven.took can.supply_is some_block streams in
       let bytes = few_bytes head cut (driven.last.taken + length driven.last.held) (measures geometry).block block_is can.short can.within
       (less_if name head (measures geometry) driven.gave first now cut supply driven.last driven.course driven.took can.supply_is some_block streams) in

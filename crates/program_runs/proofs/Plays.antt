@@ -1,9 +1,10 @@
 -- A driver that plays a sound over a machine by a schedule that serves it.
-use Rattle.std.proofs.Common.{◌≡◌, ◌⊎◌, inl, inr, ◌+◌, ◌*◌, ◌≤◌, ℕ, List, Bool, true, length, refl, sym, ap, subst, ◌∙◌}
+use Rattle.std.proofs.Common.{◌≡◌, ◌⊎◌, inl, inr, ◌+◌, ◌*◌, ◌≤◌, ℕ, List, true, length, refl, sym, ap, subst, ◌∙◌}
 use Rattle.std.specs.Prelude.{All}
 use Rattle.std.proofs.lemmas.List.{length-map}
 use Rattle.codec_graph.specs.Cycles.{IsWellFormed}
 use Rattle.stream_format.specs.Cadence.{block_bytes}
+use Rattle.route_planner.specs.declared.pin_kind.PinKind.{PinKind}
 use Rattle.route_planner.specs.declared.routes.Plan.{Plan}
 use Rattle.schedule_reader.specs.declared.schedule.Item.{Item}
 use Rattle.schedule_reader.specs.declared.schedule.Schedule.{Schedule}
@@ -24,8 +25,8 @@ use Rattle.driver_progress.specs.declared.phase.Phase.TheVariants.{Playing, Drai
 use Rattle.driver_progress.specs.States.{State}
 use Rattle.driver_progress.specs.Tasks.{Task, DriverLine, order_of}
 use Rattle.driver_progress.specs.Progress.{state_of}
-use Rattle.laws_start.specs.Tasks.{HavePlans, commands_of}
 use Rattle.sound_report.specs.declared.played.Played.{Played}
+use Rattle.program_runs.specs.Outputs.{HavePlansOf, commands_as}
 use Rattle.program_runs.specs.Histories.{command_total, journal_of, telling_of_run}
 use Rattle.program_runs.specs.Plays.{Lived, IsPlayed, end_in_phase, play_fault, played_task}
 use Rattle.laws_serving.specs.Rounds.{rounds_of}
@@ -62,13 +63,13 @@ abbrev pub LinesLaw : Type 0
 LinesLaw =
     (task : Task) (items : List Item) (telling : Telling) (calls bytes : ℕ) → IsRunOf task items telling → All IsCalmRound (rounds_of items).rounds → HasSentBefore calls bytes telling.start telling.journal → calls ≤ length (rounds_of items).rounds
 
-module _ (machine : Machine) (plans : List Plan) (wav : Wav) (geometry : Geometry) (schedule : Schedule) (played : Played) (sound : IsSound machine) (well_formed : All IsWellFormed (graphs_in machine.codecs)) (have : HavePlans wav.format machine.codecs plans)
-    (limited : IsLimited schedule) (serves : ServesPlay wav.format machine plans geometry schedule) (is : IsPlayed machine plans wav geometry schedule played) where
+module _ (kind : PinKind) (machine : Machine) (plans : List Plan) (wav : Wav) (geometry : Geometry) (schedule : Schedule) (played : Played) (sound : IsSound machine) (well_formed : All IsWellFormed (graphs_in machine.codecs)) (have : HavePlansOf kind wav.format machine.codecs plans)
+    (limited : IsLimited schedule) (serves : ServesPlay kind wav.format machine plans geometry schedule) (is : IsPlayed kind machine plans wav geometry schedule played) where
   abbrev pub task : Task
-  task = played_task machine plans wav geometry is.blocks
+  task = played_task kind machine plans wav geometry is.blocks
 
   abbrev pub commands : ℕ
-  commands = command_total wav.format machine plans
+  commands = command_total kind wav.format machine plans
 
   abbrev pub items : List Item
   items = items_of schedule
@@ -77,12 +78,12 @@ module _ (machine : Machine) (plans : List Plan) (wav : Wav) (geometry : Geometr
   telling = telling_of_run machine played
 
   pub counted : length task.orders ≡ commands
-  counted = length-map (commands_of wav.format machine.codecs plans) order_of
+  counted = length-map (commands_as kind wav.format machine.codecs plans) order_of
 
   pub to : IsTaskTo (machine_addresses machine) task
   to =
       let well = lie_well geometry is.blocks is.first_fits in
-      record { orders = orders_go wav.format machine.codecs plans have well_formed sound.each; corb_block = well.corb; rirb_block = well.rirb }
+      record { orders = orders_go kind wav.format machine.codecs plans have well_formed sound.each; corb_block = well.corb; rirb_block = well.rirb }
 
   pub start : IsStartFor (machine_addresses machine) task telling.start
   start = starts machine task sound (lie_well geometry is.blocks is.first_fits)

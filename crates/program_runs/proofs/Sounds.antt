@@ -9,6 +9,7 @@ use Rattle.stream_format.specs.declared.format.Format.{Format}
 use Rattle.hda_files.specs.declared.machine.Machine.{Machine}
 use Rattle.schedule_reader.specs.declared.schedule.Schedule.{Schedule}
 use Rattle.period_writer.specs.declared.geometry.Geometry.{Geometry}
+use Rattle.route_planner.specs.declared.pin_kind.PinKind.TheVariants.{Analog}
 use Rattle.route_planner.specs.declared.routes.Plan.{Plan}
 use Rattle.sound_report.specs.declared.played.CutLine.{CutLine}
 use Rattle.sound_report.specs.declared.played.CutLine.TheVariants as cuts
@@ -61,7 +62,7 @@ not_cut name head read failed emptied (Some (cuts.Short place)) under good long 
 module _ (law : IsHeardAgain) (number : ℕ) (machine : Machine) (plans : List Plan) (head : WavHead) (geometry : Geometry) (schedule : Schedule) (files : Files) (played : Played)
     (machine_is : machine ≡ made_machine) (planned : HavePlans made_format machine.codecs plans) (is_routed : have_route plans ≡ true) (made : IsMadeSchedule number schedule)
     (shape : HasShape 4 8 machine.fifo head.format geometry) (files_are : files ≡ made_files number) (made_head : IsMadeHead number head)
-    (from : IsPlayedFrom (Some files) sound_name head machine plans geometry schedule played)
+    (from : IsPlayedFrom Analog (Some files) sound_name head machine plans geometry schedule played)
     (failed emptied : Type 0) (cut : IsCutUnder sound_name head played.read failed emptied played.cut) (never : failed → ⊥) where
   uncut : played.cut ≡ None
   uncut =
@@ -96,8 +97,8 @@ module _ (law : IsHeardAgain) (number : ℕ) (machine : Machine) (plans : List P
     geometry = geometry;
     ring = subst (λ (machine : Machine). HasShape 4 8 machine.fifo made_format geometry) machine_is
         (subst (λ (format : Format). HasShape 4 8 machine.fifo format geometry) made_head.format_is shape);
-    run = subst (λ (machine : Machine). IsPlayed machine plans (made_sound number) geometry schedule played) machine_is
-        (subst (λ (wav : Wav). IsPlayed machine plans wav geometry schedule played) (sound_is number head from.pcm made_head pcm_is) from.run);
+    run = subst (λ (machine : Machine). IsPlayed Analog machine plans (made_sound number) geometry schedule played) machine_is
+        (subst (λ (wav : Wav). IsPlayed Analog machine plans wav geometry schedule played) (sound_is number head from.pcm made_head pcm_is) from.run);
     uncut = uncut;
     read = all_read;
   }

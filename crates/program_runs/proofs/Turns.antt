@@ -7,6 +7,7 @@ use Rattle.codec_graph.specs.Cycles.{IsWellFormed}
 use Rattle.codec_sound.specs.HeardLists.{heard}
 use Rattle.stream_format.specs.Cadence.{block_bytes}
 use Rattle.stream_format.specs.declared.format.Rate.TheVariants.{R48}
+use Rattle.route_planner.specs.declared.pin_kind.PinKind.TheVariants.{Analog}
 use Rattle.route_planner.specs.declared.routes.Plan.{Plan}
 use Rattle.route_planner.specs.declared.routes.PinPlan.{PinPlan}
 use Rattle.schedule_reader.specs.declared.schedule.Item.{Item}
@@ -57,15 +58,15 @@ LineLaw = (commands ring block fifo : ℕ) (lengths : List ℕ) (rounds : List R
 -- ---- what pins heard
 
 module _ (block : ℕ) (carried : List CarriedFrame) (sent : All (CarriedBytes block) carried) (law : HoleLaw) where
-  pins_no_hole : (file : CodecFile) (entries : List PinPlan) → All HasNoHole (map (heard_of carried file) entries)
-  pins_no_hole file entries = All-map HasNoHole (heard_of carried file) entries (λ k d lt. law block file.graph.address (get_or entries k d).pin carried sent)
+  pins_no_hole : (file : CodecFile) (entries : List PinPlan) → All HasNoHole (map (heard_of Analog carried file) entries)
+  pins_no_hole file entries = All-map HasNoHole (heard_of Analog carried file) entries (λ k d lt. law block file.graph.address (get_or entries k d).pin carried sent)
 
-  codecs_no_hole : (codecs : List (CodecFile × Plan)) → All HasNoHole (flat_map (heard_by carried) codecs)
+  codecs_no_hole : (codecs : List (CodecFile × Plan)) → All HasNoHole (flat_map (heard_by Analog carried) codecs)
   codecs_no_hole [] = All-nil HasNoHole
   codecs_no_hole (codec ∷ codecs) =
-      All-append HasNoHole (heard_by carried codec) (flat_map (heard_by carried) codecs) (pins_no_hole codec.0 codec.1.pins) (codecs_no_hole codecs)
+      All-append HasNoHole (heard_by Analog carried codec) (flat_map (heard_by Analog carried) codecs) (pins_no_hole codec.0 codec.1.pins) (codecs_no_hole codecs)
 
-  pub lists_no_hole : (files : List CodecFile) (plans : List Plan) → All HasNoHole (lists_heard carried files plans)
+  pub lists_no_hole : (files : List CodecFile) (plans : List Plan) → All HasNoHole (lists_heard Analog carried files plans)
   lists_no_hole files plans = codecs_no_hole (zip files plans)
 
 -- ---- the run
@@ -74,15 +75,15 @@ at_least : (lines commands turns : ℕ) → lines ≡ 4 + commands + turns → 4
 at_least lines commands turns is = omega (arith, is)
 
 module _ (machine : Machine) (plans : List Plan) (wav : Wav) (geometry : Geometry) (schedule : Schedule) (played : Played) (sound : IsSound machine) (well_formed : All IsWellFormed (graphs_in machine.codecs)) (have : HavePlans wav.format machine.codecs plans)
-    (limited : IsLimited schedule) (serves : ServesPlay wav.format machine plans geometry schedule) (is : IsPlayed machine plans wav geometry schedule played) where
+    (limited : IsLimited schedule) (serves : ServesPlay Analog wav.format machine plans geometry schedule) (is : IsPlayed Analog machine plans wav geometry schedule played) where
   abbrev task : Task
-  task = plays.task machine plans wav geometry schedule played sound well_formed have limited serves is
+  task = plays.task Analog machine plans wav geometry schedule played sound well_formed have limited serves is
 
   abbrev telling : Telling
-  telling = plays.telling machine plans wav geometry schedule played sound well_formed have limited serves is
+  telling = plays.telling Analog machine plans wav geometry schedule played sound well_formed have limited serves is
 
   abbrev items : List Item
-  items = plays.items machine plans wav geometry schedule played sound well_formed have limited serves is
+  items = plays.items Analog machine plans wav geometry schedule played sound well_formed have limited serves is
 
   -- what is told of the state is kept with the run
   kept : (frames : ℕ) (lengths : List ℕ) → HoleLaw → HasPlayedInTurns (measures geometry).ring (measures geometry).block frames lengths is.run.state (world_of telling)
@@ -98,17 +99,17 @@ module _ (machine : Machine) (plans : List Plan) (wav : Wav) (geometry : Geometr
       → EndsInTheLast frames lengths → PlaysByTurns (measures geometry).ring (measures geometry).block frames lengths played
   plays_by_turns play_law law hole_law line_law frames lengths rate long turns ends =
       let m = measures geometry in
-      let commands = plays.commands machine plans wav geometry schedule played sound well_formed have limited serves is in
-      let counted = plays.counted machine plans wav geometry schedule played sound well_formed have limited serves is in
-      let to = plays.to machine plans wav geometry schedule played sound well_formed have limited serves is in
-      let start = plays.start machine plans wav geometry schedule played sound well_formed have limited serves is in
-      let run = plays.run machine plans wav geometry schedule played sound well_formed have limited serves is in
-      let commands_served = plays.commands_served machine plans wav geometry schedule played sound well_formed have limited serves is in
-      let sound_served = plays.sound_served machine plans wav geometry schedule played sound well_formed have limited serves is in
-      let state_is = plays.state_is machine plans wav geometry schedule played sound well_formed have limited serves is in
-      let come = plays.comes_by machine plans wav geometry schedule played sound well_formed have limited serves is play_law in
+      let commands = plays.commands Analog machine plans wav geometry schedule played sound well_formed have limited serves is in
+      let counted = plays.counted Analog machine plans wav geometry schedule played sound well_formed have limited serves is in
+      let to = plays.to Analog machine plans wav geometry schedule played sound well_formed have limited serves is in
+      let start = plays.start Analog machine plans wav geometry schedule played sound well_formed have limited serves is in
+      let run = plays.run Analog machine plans wav geometry schedule played sound well_formed have limited serves is in
+      let commands_served = plays.commands_served Analog machine plans wav geometry schedule played sound well_formed have limited serves is in
+      let sound_served = plays.sound_served Analog machine plans wav geometry schedule played sound well_formed have limited serves is in
+      let state_is = plays.state_is Analog machine plans wav geometry schedule played sound well_formed have limited serves is in
+      let come = plays.comes_by Analog machine plans wav geometry schedule played sound well_formed have limited serves is play_law in
       let enough = at_least (line_count schedule) commands (length lengths) (line_law commands m.ring m.block machine.fifo lengths (all_rounds schedule).rounds turns) in
-      let stays = plays.stopped machine plans wav geometry schedule played sound well_formed have limited serves is enough come in
+      let stays = plays.stopped Analog machine plans wav geometry schedule played sound well_formed have limited serves is enough come in
       let turns' : PlaysInTurns (length task.orders) m.ring m.block machine.fifo lengths (all_rounds schedule).rounds =
       subst (λ (commands : ℕ). PlaysInTurns commands m.ring m.block machine.fifo lengths (all_rounds schedule).rounds) (sym counted) turns in
       let has = law task (machine_addresses machine) items telling frames lengths refl to start run commands_served sound_served turns' stays rate long ends in

@@ -2,9 +2,7 @@
 use Rattle.std.specs.Prelude.{◌≡◌, ◌≤◌, ◌+◌, ◌++◌, [], ◌∷◌, Bool, false, ℕ, List, length, All, Option}
 use Rattle.verb_codes.specs.declared.verbs.Command.{Command}
 use Rattle.codec_graph.specs.declared.raw.RawCodec.{RawCodec}
-use Rattle.codec_graph.specs.Settings.{Entries}
 use Rattle.stream_format.specs.declared.format.Format.{Format}
-use Rattle.route_planner.specs.declared.routes.Plan.{Plan}
 use Rattle.schedule_reader.specs.declared.schedule.Item.{Item}
 use Rattle.schedule_reader.specs.declared.schedule.Item.TheVariants.{Drive}
 use Rattle.schedule_reader.specs.declared.schedule.DriverLine.{DriverLine as Line}

@@ -4,8 +4,9 @@ use Rattle.std.specs.List.{flat_map, zip}
 use Rattle.stream_format.specs.declared.format.Format.{Format}
 use Rattle.stream_format.specs.Layouts.{layout}
 use Rattle.codec_sound.specs.declared.heard.Heard.{Heard}
-use Rattle.codec_sound.specs.HeardLists.{block_size, heard}
+use Rattle.codec_sound.specs.HeardLists.{block_size, heard_as}
 use Rattle.heard_lists.specs.declared.pin_list.PinHeard.{PinHeard}
+use Rattle.route_planner.specs.declared.pin_kind.PinKind.{PinKind}
 use Rattle.route_planner.specs.declared.routes.Outcome.{Outcome}
 use Rattle.route_planner.specs.declared.routes.Outcome.TheVariants as outcome
 use Rattle.route_planner.specs.declared.routes.PinPlan.{PinPlan}
@@ -19,19 +20,19 @@ use Rattle.period_writer.specs.Lines.{line_of}
 use Rattle.laws_hearing.specs.Plays.{Plays, WasSent, IsSilent, without_holes}
 use Rattle.laws_stream.specs.Lives.{Along, IsStopped}
 
--- what link frames carried, as each candidate pin of some codecs hears it, in the order of their plans
-abbrev pub heard_of : List CarriedFrame → CodecFile → PinPlan → PinHeard
-heard_of carried file entry = record {
+-- what link frames carried, as each candidate pin of the kind of some codecs hears it, in the order of their plans
+abbrev pub heard_of : PinKind → List CarriedFrame → CodecFile → PinPlan → PinHeard
+heard_of kind carried file entry = record {
   codec = file.graph.address;
   pin = entry.pin;
-  list = heard file.graph.address entry.pin carried;
+  list = heard_as kind file.graph.address entry.pin carried;
 }
 
-abbrev pub heard_by : List CarriedFrame → CodecFile × Plan → List PinHeard
-heard_by carried codec = map (heard_of carried codec.0) codec.1.pins
+abbrev pub heard_by : PinKind → List CarriedFrame → CodecFile × Plan → List PinHeard
+heard_by kind carried codec = map (heard_of kind carried codec.0) codec.1.pins
 
-abbrev pub lists_heard : List CarriedFrame → List CodecFile → List Plan → List PinHeard
-lists_heard carried files plans = flat_map (heard_by carried) (zip files plans)
+abbrev pub lists_heard : PinKind → List CarriedFrame → List CodecFile → List Plan → List PinHeard
+lists_heard kind carried files plans = flat_map (heard_by kind carried) (zip files plans)
 
 -- the list of a pin with a route: its pair of the line, by how the last run ended, and nothing else but holes. Of a
 -- late run it is the line up to the last recorded reach, which is lower where that run took silence back. Once the line
@@ -47,11 +48,11 @@ HearsBy format pcm tally pair (outcome.Route route) list = HearsItsPair format p
 HearsBy format pcm tally pair outcome.Blocked list = All IsSilent list
 HearsBy format pcm tally pair outcome.NoPath list = All IsSilent list
 
--- so did the candidate pins of a codec with this plan
-abbrev pub HearTheirs : Format → (pcm : List ℕ) → Tally → List CarriedFrame → CodecFile → Plan → Type 0
-HearTheirs format pcm tally carried file plan =
+-- so did the candidate pins of the kind of a codec with this plan
+abbrev pub HearTheirs : PinKind → Format → (pcm : List ℕ) → Tally → List CarriedFrame → CodecFile → Plan → Type 0
+HearTheirs kind format pcm tally carried file plan =
     All (λ (entry : PinPlan). HearsBy format pcm tally entry.pair entry.outcome
-    (heard file.graph.address entry.pin carried)) plan.pins
+    (heard_as kind file.graph.address entry.pin carried)) plan.pins
 
 -- all sound was written, and the link had played the last of it
 pub record HasPlayedAll (pcm : List ℕ) (tally : Tally) : Type 0 where

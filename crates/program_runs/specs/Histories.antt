@@ -3,10 +3,10 @@ use Rattle.std.specs.Prelude.{◌≡◌, ℕ, true, List, ◌++◌, length, Cont
 use Rattle.stream_format.specs.declared.format.Format.{Format}
 use Rattle.codec_graph.specs.declared.raw.RawCodec.{RawCodec}
 use Rattle.codec_graph.specs.CodecStates.{CodecState}
-use Rattle.codec_graph.specs.Settings.{Entries}
+use Rattle.route_planner.specs.declared.pin_kind.PinKind.{PinKind}
 use Rattle.route_planner.specs.declared.routes.Plan.{Plan}
-use Rattle.route_planner.specs.Plans.{IsPlan}
-use Rattle.setup_verbs.specs.SetUp.{IsSetUp}
+use Rattle.route_planner.specs.Plans.{IsPlanAs}
+use Rattle.setup_verbs.specs.SetUp.{IsSetUpFor}
 use Rattle.schedule_reader.specs.declared.schedule.Schedule.{Schedule}
 use Rattle.hda_files.specs.declared.machine.Machine.{Machine}
 use Rattle.hda_files.specs.Machines.{IsSound}
@@ -27,8 +27,9 @@ use Rattle.sound_report.specs.declared.played.Played.{Played}
 use Rattle.rig.specs.Follows.{Follows}
 use Rattle.rig.specs.Replays.{start_of, telling_from}
 use Rattle.heard_lists.specs.Listings.{graphs_in}
-use Rattle.laws_start.specs.Tasks.{commands_of, stream_tag}
+use Rattle.laws_start.specs.Tasks.{stream_tag}
 use Rattle.program_runs.specs.Lines.{lines_of}
+use Rattle.program_runs.specs.Outputs.{commands_as}
 
 -- what driver and device did, and what it tells from the machine's start on
 abbrev pub journal_of : Played → List Event
@@ -67,24 +68,25 @@ pub record MakesProgress (machine : Machine) (schedule : Schedule) (task : Task)
 
 -- ---- open routes
 
--- the codec with this graph is there, and its settings are what the plan of its graph for the format asks
-pub record IsOpenFor (format : Format) (world : World) (graph : RawCodec) : Type 0 where
+-- the codec with this graph is there, and its settings are what the plan of its pins of the kind for the format asks
+pub record IsOpenFor (kind : PinKind) (format : Format) (world : World) (graph : RawCodec) : Type 0 where
   pub now : CodecState
   pub found : codec_at graph.address world.codecs ≡ Some now
   pub graph_is : now.graph ≡ graph
-  pub set_up : (plan : Plan) → IsPlan graph format plan → IsSetUp graph now.settings plan format stream_tag
+  pub set_up : (plan : Plan) → IsPlanAs kind graph format plan
+      → IsSetUpFor kind graph now.settings plan format stream_tag
 
--- open: from the answer to the last command on, at every moment all codecs are set up by their plans for the format. A
--- moment stands between the events of the journal before it and the later ones
-abbrev pub StaysOpen : Format → Machine → Schedule → Task → Telling → Type 0
-StaysOpen format machine schedule task telling =
+-- open: from the answer to the last command on, at every moment all codecs are set up by the plans of their pins of the
+-- kind for the format. A moment stands between the events of the journal before it and the later ones
+abbrev pub StaysOpen : PinKind → Format → Machine → Schedule → Task → Telling → Type 0
+StaysOpen kind format machine schedule task telling =
     (before later : List Event) → telling.journal ≡ before ++ later
     → are_answered task (trail_after task before telling.start (trail_opened (lines_of schedule))) ≡ true
     → (graph : RawCodec) → Contains (graphs_in machine.codecs) graph
-    → IsOpenFor format (after before telling.start) graph
+    → IsOpenFor kind format (after before telling.start) graph
 
 -- ---- commands
 
--- the number of commands that it takes to walk over the machine's codecs and to set them up
-abbrev pub command_total : Format → Machine → List Plan → ℕ
-command_total format machine plans = length (commands_of format machine.codecs plans)
+-- the number of commands that it takes to walk over the machine's codecs and to set their pins of the kind up
+abbrev pub command_total : PinKind → Format → Machine → List Plan → ℕ
+command_total kind format machine plans = length (commands_as kind format machine.codecs plans)

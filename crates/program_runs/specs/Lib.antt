@@ -3,6 +3,7 @@ pub mod Events
 pub mod LinkFrames
 pub mod FirstFits
 pub mod Shapes
+pub mod Outputs
 pub mod Histories
 pub mod Ends
 pub mod Walks

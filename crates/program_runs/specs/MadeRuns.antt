@@ -1,5 +1,6 @@
 -- The run of the inputs that are made of a number. This project's own.
 use Rattle.std.specs.Prelude.{◌≡◌, ℕ, true, List, None}
+use Rattle.route_planner.specs.declared.pin_kind.PinKind.TheVariants.{Analog}
 use Rattle.route_planner.specs.declared.routes.Plan.{Plan}
 use Rattle.schedule_reader.specs.declared.schedule.Schedule.{Schedule}
 use Rattle.period_writer.specs.declared.geometry.Geometry.{Geometry}
@@ -21,7 +22,7 @@ pub record IsMadeRun (number : ℕ) (played : Played) : Type 0 where
   pub made : IsMadeSchedule number schedule
   pub geometry : Geometry
   pub ring : HasShape 4 8 made_machine.fifo made_format geometry
-  pub run : IsPlayed made_machine plans (made_sound number) geometry schedule played
+  pub run : IsPlayed Analog made_machine plans (made_sound number) geometry schedule played
   -- all of the sound was read
   pub uncut : played.cut ≡ None
   pub read : played.read ≡ frames_for number

@@ -1,8 +1,9 @@
 -- What comes of playing a sound over a machine by a schedule. This project's own.
 use Rattle.std.specs.List.{AllZip}
-use Rattle.std.specs.Prelude.{◌≡◌, ◌≢◌, ◌<◌, ℕ, ◌+◌, ◌-◌, ◌*◌, Bool, true, false, List, length, take, Option, Some}
+use Rattle.std.specs.Prelude.{◌≡◌, ◌≢◌, ◌<◌, ℕ, ◌+◌, ◌-◌, ◌*◌, true, false, List, length, take, Option, Some}
 use Rattle.std.specs.Prelude.{None, string_bytes, if◌then◌else◌}
 use Rattle.stream_format.specs.Cadence.{block_bytes}
+use Rattle.route_planner.specs.declared.pin_kind.PinKind.{PinKind}
 use Rattle.route_planner.specs.declared.routes.Plan.{Plan}
 use Rattle.hda_outside.specs.Shelf.{Files}
 use Rattle.wav_reader.specs.declared.opened.WavHead.{WavHead}
@@ -39,11 +40,11 @@ use Rattle.sound_report.specs.declared.played.CutLine.TheVariants as cuts
 use Rattle.sound_report.specs.declared.played.Played.{Played}
 use Rattle.sound_report.specs.declared.played.PlayFault.{PlayFault}
 use Rattle.sound_report.specs.declared.played.PlayFault.TheVariants as faults
-use Rattle.laws_start.specs.Tasks.{task_of}
 use Rattle.program_runs.specs.FirstFits.{AreFirstFits}
 use Rattle.program_runs.specs.Ends.{play_can_end}
 use Rattle.program_runs.specs.Lines.{lines_of}
 use Rattle.program_runs.specs.Events.{told_in}
+use Rattle.program_runs.specs.Outputs.{task_as}
 use Rattle.program_runs.specs.Histories.{HasInput, IsHistory, MakesProgress, StaysOpen, command_total, telling_of_run}
 use Rattle.driver_progress.specs.Stretches.{stretches_of}
 use Rattle.program_runs.specs.FrameCounts.{frames_written, frames_below, last_at, written_by}
@@ -64,9 +65,11 @@ play_fault phase sent of block total runs silences = Some (faults.CommandsLeft s
 
 -- ---- the run
 
--- the task: the machine's codecs are set up by these plans, and the sound is played through a ring in these blocks
-abbrev pub played_task : Machine → List Plan → Wav → Geometry → Blocks → Task
-played_task machine plans wav geometry blocks = task_of wav.format machine plans geometry true wav.pcm blocks
+-- the task: the pins of the kind of the machine's codecs are set up by these plans, and the sound is played through a
+-- ring in these blocks
+abbrev pub played_task : PinKind → Machine → List Plan → Wav → Geometry → Blocks → Task
+played_task kind machine plans wav geometry blocks =
+    task_as kind wav.format machine plans geometry true wav.pcm blocks
 
 -- how the last run ended, where one was made: by the phase of a driver
 abbrev pub end_in_phase : Phase → Option Ran
@@ -96,40 +99,41 @@ pub record AreRecorded (schedule : Schedule) (task : Task) (phase : Phase) (tall
   pub end_is : end_of_course tally.course ≡ end_in_phase phase
   pub stream : Lived (end_in_phase phase) tally telling
 
--- what was heard is what the link frames carried, as each candidate pin hears it: the line by its plan. Where the line
--- has drained, that was all sound
-pub record IsHeard (machine : Machine) (plans : List Plan) (wav : Wav) (tally : Tally) (carried : List CarriedFrame)
-    (lists : List PinHeard) : Type 0 where
-  pub lists_are : lists ≡ lists_heard carried machine.codecs plans
-  pub hear : AllZip (HearTheirs wav.format wav.pcm tally carried) machine.codecs plans
+-- what was heard is what the link frames carried, as each candidate pin of the kind hears it: the line by its plan.
+-- Where the line has drained, that was all sound
+pub record IsHeard (kind : PinKind) (machine : Machine) (plans : List Plan) (wav : Wav) (tally : Tally)
+    (carried : List CarriedFrame) (lists : List PinHeard) : Type 0 where
+  pub lists_are : lists ≡ lists_heard kind carried machine.codecs plans
+  pub hear : AllZip (HearTheirs kind wav.format wav.pcm tally carried) machine.codecs plans
   pub whole : tally.course.ran ≡ ran.Drained → HasPlayedAll wav.pcm tally
 
--- what is told of a driver that plays a sound, by this task, over a machine whose codecs have these plans
-pub record PlaysTask (machine : Machine) (plans : List Plan) (wav : Wav) (schedule : Schedule) (task : Task)
-    (telling : Telling) (played : Played) : Type 0 where
+-- what is told of a driver that plays a sound through pins of the kind, by this task, over a machine whose codecs have
+-- these plans
+pub record PlaysTask (kind : PinKind) (machine : Machine) (plans : List Plan) (wav : Wav) (schedule : Schedule)
+    (task : Task) (telling : Telling) (played : Played) : Type 0 where
   pub state : State
   pub history : IsHistory machine schedule telling.journal
   pub progress : MakesProgress machine schedule task state telling played.graphs
-  pub opened : StaysOpen wav.format machine schedule task telling
+  pub opened : StaysOpen kind wav.format machine schedule task telling
   pub runs : AreRecorded schedule task state.phase state.tally telling played
-  pub heard : IsHeard machine plans wav state.tally (world_of telling).carried played.heard
+  pub heard : IsHeard kind machine plans wav state.tally (world_of telling).carried played.heard
   -- jacks count what was read of RIRB that came unasked
   pub jacks : Counts (told_in telling.journal) played.jacks
-  pub commands : played.commands ≡ command_total wav.format machine plans
+  pub commands : played.commands ≡ command_total kind wav.format machine plans
   -- it ended in a phase in which a run can end, and tells why
   pub ends : play_can_end state.phase ≡ true
   pub fault : played.fault ≡ play_fault state.phase state.sent played.commands (block_bytes wav.format) played.total
       state.tally.runs state.tally.silences
 
--- the run of a driver that plays a sound through a ring
-pub record IsPlayed (machine : Machine) (plans : List Plan) (wav : Wav) (geometry : Geometry) (schedule : Schedule)
-    (played : Played) : Type 0 where
+-- the run of a driver that plays a sound through a ring and pins of the kind
+pub record IsPlayed (kind : PinKind) (machine : Machine) (plans : List Plan) (wav : Wav) (geometry : Geometry)
+    (schedule : Schedule) (played : Played) : Type 0 where
   pub no_walk : played.walk ≡ false
   pub input : HasInput wav.format wav.frames machine plans played
   -- the driver's blocks are first fits
   pub blocks : Blocks
   pub first_fits : AreFirstFits geometry blocks
-  pub run : PlaysTask machine plans wav schedule (played_task machine plans wav geometry blocks)
+  pub run : PlaysTask kind machine plans wav schedule (played_task kind machine plans wav geometry blocks)
       (telling_of_run machine played) played
 
 -- ---- the sound
@@ -162,12 +166,13 @@ IsCutUnder name head read failed emptied (Some (cuts.Failed other)) = (string_by
 IsCutUnder name head read failed emptied (Some (cuts.Short place)) =
     IsInFrame (head_in_file head) (read * block_of (head_in_file head)) place × emptied
 
--- the run of a driver that plays a sound which it reads meanwhile: over the sound that was read
-pub record IsPlayedFrom (told : Option Files) (name : List ℕ) (head : WavHead) (machine : Machine) (plans : List Plan)
-    (geometry : Geometry) (schedule : Schedule) (played : Played) : Type 0 where
+-- the run of a driver that plays a sound through pins of the kind, which it reads meanwhile: over the sound that was
+-- read
+pub record IsPlayedFrom (kind : PinKind) (told : Option Files) (name : List ℕ) (head : WavHead) (machine : Machine)
+    (plans : List Plan) (geometry : Geometry) (schedule : Schedule) (played : Played) : Type 0 where
   pub pcm : List ℕ
   pub sound : IsSoundRead told name head played pcm
-  pub run : IsPlayed machine plans (sound_with head pcm) geometry schedule played
+  pub run : IsPlayed kind machine plans (sound_with head pcm) geometry schedule played
 
 -- no more bytes are given than the recorded runs wrote, and twice what the ring has: as many may be held at the end,
 -- and as many a late run may have taken

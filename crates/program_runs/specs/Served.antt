@@ -2,6 +2,8 @@
 -- project's own.
 use Rattle.std.specs.Prelude.{◌≡◌, ◌⊎◌, ◌≤◌, ◌<◌, ℕ, ◌+◌, ◌*◌, List, [], ◌∷◌, length, map, sum, All, Option, None, Some}
 use Rattle.stream_format.specs.declared.format.Format.{Format}
+use Rattle.route_planner.specs.declared.pin_kind.PinKind.{PinKind}
+use Rattle.route_planner.specs.declared.pin_kind.PinKind.TheVariants.{Analog}
 use Rattle.route_planner.specs.declared.routes.Plan.{Plan}
 use Rattle.hda_files.specs.declared.machine.CodecFile.{CodecFile}
 use Rattle.hda_files.specs.declared.machine.Machine.{Machine}
@@ -42,16 +44,16 @@ all_rounds schedule = rounds_of (items_of schedule)
 abbrev pub line_count : Schedule → ℕ
 line_count schedule = length (all_rounds schedule).rounds
 
--- it serves the bring-up of a machine whose codecs have these plans for this format
-abbrev pub ServesBringUp : Format → Machine → List Plan → Schedule → Type 0
-ServesBringUp format machine plans schedule =
-    ServesCommands (machine_addresses machine) (command_total format machine plans) (all_rounds schedule)
+-- it serves the bring-up of a machine whose codecs have these plans of their pins of the kind for this format
+abbrev pub ServesBringUp : PinKind → Format → Machine → List Plan → Schedule → Type 0
+ServesBringUp kind format machine plans schedule =
+    ServesCommands (machine_addresses machine) (command_total kind format machine plans) (all_rounds schedule)
 
--- and a sound of this format through a ring
-pub record ServesPlay (format : Format) (machine : Machine) (plans : List Plan) (geometry : Geometry)
+-- and a sound of this format through a ring and those pins
+pub record ServesPlay (kind : PinKind) (format : Format) (machine : Machine) (plans : List Plan) (geometry : Geometry)
     (schedule : Schedule) : Type 0 where
-  pub commands : ServesBringUp format machine plans schedule
-  pub sound : ServesSound (command_total format machine plans) (measures geometry).limit (measures geometry).slack
+  pub commands : ServesBringUp kind format machine plans schedule
+  pub sound : ServesSound (command_total kind format machine plans) (measures geometry).limit (measures geometry).slack
       (all_rounds schedule).rounds
 
 -- ---- how a walk ends
@@ -90,11 +92,12 @@ pub record PlaysAll (bytes : ℕ) (silences : List Span) (fault : Option PlayFau
 
 -- ---- what comes of turns
 
--- a schedule plays in turns of so many link frames each, through a machine whose codecs have these plans, and a ring
+-- a schedule plays in turns of so many link frames each, through analog pins of a machine whose codecs have these
+-- plans, and a ring
 abbrev pub PlaysTurns : Format → Machine → List Plan → Geometry → (lengths : List ℕ) → Schedule → Type 0
 PlaysTurns format machine plans geometry lengths schedule =
-    PlaysInTurns (command_total format machine plans) (measures geometry).ring (measures geometry).block machine.fifo
-    lengths (all_rounds schedule).rounds
+    PlaysInTurns (command_total Analog format machine plans) (measures geometry).ring (measures geometry).block
+    machine.fifo lengths (all_rounds schedule).rounds
 
 -- no link frame missed its block
 abbrev pub HasNoHole : PinHeard → Type 0

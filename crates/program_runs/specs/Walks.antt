@@ -4,6 +4,7 @@ use Rattle.std.proofs.Common.{lit≤}
 use Rattle.stream_format.specs.declared.format.Format.{Format}
 use Rattle.stream_format.specs.declared.format.Bits.TheVariants.{B16}
 use Rattle.stream_format.specs.declared.format.Rate.TheVariants.{R48}
+use Rattle.route_planner.specs.declared.pin_kind.PinKind.TheVariants.{Analog}
 use Rattle.route_planner.specs.declared.routes.Plan.{Plan}
 use Rattle.schedule_reader.specs.declared.schedule.Schedule.{Schedule}
 use Rattle.hda_files.specs.declared.machine.Machine.{Machine}
@@ -57,10 +58,10 @@ pub record WalksTask (machine : Machine) (plans : List Plan) (schedule : Schedul
   pub state : State
   pub history : IsHistory machine schedule telling.journal
   pub progress : MakesProgress machine schedule task state telling played.graphs
-  pub opened : StaysOpen walk_format machine schedule task telling
+  pub opened : StaysOpen Analog walk_format machine schedule task telling
   -- jacks count what was read of RIRB that came unasked
   pub jacks : Counts (told_in telling.journal) played.jacks
-  pub commands : played.commands ≡ command_total walk_format machine plans
+  pub commands : played.commands ≡ command_total Analog walk_format machine plans
   -- it ended in a phase in which a walk can end, and tells why
   pub ends : walk_can_end state.phase ≡ true
   pub fault : played.fault ≡ walk_fault state.phase state.sent played.commands

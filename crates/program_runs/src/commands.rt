@@ -5,38 +5,39 @@ ghost use Rattle.codec_graph.specs.Widget.{has_list};
 ghost use Rattle.codec_walk.specs.Commands.{walk_commands, node_count};
 ghost use Rattle.codec_walk.specs.Words.{applies, node_words, words_for};
 ghost use Rattle.driver_bring_up.specs.Addresses.{most_codecs};
-ghost use Rattle.route_planner.specs.Plans.{IsPlan};
-ghost use Rattle.laws_start.specs.Tasks.{HavePlans, commands_of, verbs_by};
+ghost use Rattle.route_planner.specs.Plans.{IsPlanAs};
+ghost use Rattle.program_runs.specs.Outputs.{HavePlansOf, commands_as, verbs_by_as};
 ghost use Rattle.program_runs.specs.WalkTotals.{walk_total};
 
 use codec_graph::{Graph, RawNode};
 use codec_walk::counts_the_commands;
 use driver_bring_up::TAG;
 use hda_files::CodecFile;
-use route_planner::Plan;
-use route_setup::verbs;
+use route_planner::{PinKind, Plan};
+use setup_verbs::verbs_as;
 use std::alloc::{AllocError, Global};
 use stream_format::Format;
 
-/// How many commands are sent to these codecs, four at most, before sound of this format is played: those of the walks
-/// over them, and then the set-up verbs of each by its plan. Takes memory for the verbs of one codec at a time. This
-/// project's own.
+/// How many commands are sent to these codecs, four at most, before sound of this format is played through their pins
+/// of the kind: those of the walks over them, and then the set-up verbs of each by its plan. Takes memory for the verbs
+/// of one codec at a time. This project's own.
 ///
 /// # Errors
 /// Want of memory.
 pub fn command_count(
     alloc: Global,
+    kind: PinKind,
     codecs: &[CodecFile],
     plans: &[Plan],
     format: Format,
 ) -> Result<u32, AllocError>
     requires few { length codecs.now ≤ most_codecs }
-    requires plans { HavePlans format codecs.now plans.now }
-    ensures { IfOk result (λ count. count ≡ length (commands_of format codecs.now plans.now)) }
+    requires plans { HavePlansOf kind format codecs.now plans.now }
+    ensures { IfOk result (λ count. count ≡ length (commands_as kind format codecs.now plans.now)) }
 {
     let mut count = 0;
     for index in 0..codecs.len() {
-        count += codec_count(alloc, &codecs[index].graph, &plans[index], format)?;
+        count += codec_count(alloc, kind, &codecs[index].graph, &plans[index], format)?;
     }
     Ok(count)
 }
@@ -57,13 +58,19 @@ pub fn walk_total(codecs: &[CodecFile]) -> u128
 const FIRST_COMMANDS: u32 = 10;
 
 /// How many of them go to one codec.
-fn codec_count(alloc: Global, graph: &Graph, plan: &Plan, format: Format) -> Result<u32, AllocError>
-    requires { IsPlan graph.now format plan.now }
+fn codec_count(
+    alloc: Global,
+    kind: PinKind,
+    graph: &Graph,
+    plan: &Plan,
+    format: Format,
+) -> Result<u32, AllocError>
+    requires { IsPlanAs kind graph.now format plan.now }
     ensures value { IfOk result (λ count.
-        count ≡ length (walk_commands graph.now) + length (verbs_by format graph.now plan.now)) }
+        count ≡ length (walk_commands graph.now) + length (verbs_by_as kind format graph.now plan.now)) }
     ensures few { IfOk result (λ count. count ≤ 50000) }
 {
-    let verbs = verb_count(alloc, graph, plan, format)?;
+    let verbs = verb_count(alloc, kind, graph, plan, format)?;
     Ok(walk_count(graph) + verbs)
 }
 
@@ -129,12 +136,18 @@ fn list_word_count(node: &RawNode) -> u32
 }
 
 /// How many verbs set the codec up for its plan.
-fn verb_count(alloc: Global, graph: &Graph, plan: &Plan, format: Format) -> Result<u32, AllocError>
-    requires { IsPlan graph.now format plan.now }
-    ensures value { IfOk result (λ count. count ≡ length (verbs_by format graph.now plan.now)) }
+fn verb_count(
+    alloc: Global,
+    kind: PinKind,
+    graph: &Graph,
+    plan: &Plan,
+    format: Format,
+) -> Result<u32, AllocError>
+    requires { IsPlanAs kind graph.now format plan.now }
+    ensures value { IfOk result (λ count. count ≡ length (verbs_by_as kind format graph.now plan.now)) }
     ensures few { IfOk result (λ count. count ≤ 40000) }
 {
     let _raw = graph.raw();
-    let verbs = verbs(alloc, graph, plan, format, TAG)?;
+    let verbs = verbs_as(alloc, kind, graph, plan, format, TAG)?;
     Ok(verbs.len() as u32)
 }

@@ -14,7 +14,7 @@ use hda_files::Machine;
 use hda_outside::SureShelf;
 use made_inputs::{made_codec_is_well_formed, made_schedule, made_wav};
 use period_writer::Geometry;
-use route_planner::Plan;
+use route_planner::{PinKind, Plan};
 use sound_report::Played;
 use std::alloc::{AllocError, Global};
 use wav_reader::{WavHead, WavOpen, open_wav, written_sound_is_read};
@@ -84,6 +84,14 @@ pub fn play_made(
         unreachable!();
     };
     play(
-        alloc, &mut shelf, machine, plans, head, SOUND_NAME, geometry, &schedule,
+        alloc,
+        &mut shelf,
+        PinKind::Analog,
+        machine,
+        plans,
+        head,
+        SOUND_NAME,
+        geometry,
+        &schedule,
     )
 }

@@ -9,8 +9,8 @@ ghost use Rattle.driver_agenda.specs.Planned.{have_route};
 ghost use Rattle.hda_files.specs.Machines.{IsSound};
 ghost use Rattle.schedule_reader.specs.Schedules.{IsLimited};
 ghost use Rattle.laws_start.specs.Reading.{IsWhole};
-ghost use Rattle.laws_start.specs.Tasks.{HavePlans};
 ghost use Rattle.program_runs.specs.Ends.{play_can_end};
+ghost use Rattle.program_runs.specs.Outputs.{HavePlansOf};
 ghost use Rattle.program_runs.specs.Plays as spec;
 ghost use Rattle.program_runs.specs.FrameCounts as counts;
 
@@ -21,6 +21,7 @@ use crate::lines::line_count;
 use crate::opening::open_driver;
 use crate::walking::walk_fault;
 use audio_driver::{Closed, ROOM_BYTES};
+use digital_out::Outputs;
 use driver_progress::Phase;
 use hda_files::Machine;
 use hda_items::Items;
@@ -29,8 +30,7 @@ use laws_driver::drivers_keep_to_progress;
 use laws_start::{machines_have_tasks, machines_rest, opened_drivers_can_begin};
 use period_writer::{Geometry, runs_keep_the_course, runs_write_the_line};
 use rig::Rig;
-use route_planner::{Plan, one_order};
-use route_setup::Analog;
+use route_planner::{PinKind, Plan, one_order_of_each_kind};
 use schedule_reader::Schedule;
 use sound_report::{CutLine, PlayFault, Played};
 use std::alloc::{AllocError, Global};
@@ -105,18 +105,19 @@ fn cut_line(alloc: Global, cut: Option<Cut>, name: &str) -> Result<Option<CutLin
 }
 
 /// Runs a driver over a machine by a schedule until all sound was played, a run was late, or the schedule ends: it
-/// resets the controller, walks over all codecs, plans their routes, sends the verbs that open them, and plays the
-/// sound through a ring of this geometry. The sound is that of the WAV file `name`, of which `head` says what stands
-/// before it; it is read while it plays, before each call that may play as much as the ring takes. Where the shelf
-/// fails or the file gets shorter meanwhile, the run goes on over the sound that was read until then. The machine has
-/// well-formed graphs, as each has that a codec file describes, and these plans of its codecs for the format of the
-/// sound, of which some has a route.
+/// resets the controller, walks over all codecs, plans routes to their output pins of the kind, sends the verbs that
+/// open them, and plays the sound through a ring of this geometry. The sound is that of the WAV file `name`, of which
+/// `head` says what stands before it; it is read while it plays, before each call that may play as much as the ring
+/// takes. Where the shelf fails or the file gets shorter meanwhile, the run goes on over the sound that was read until
+/// then. The machine has well-formed graphs, as each has that a codec file describes, and these plans of its codecs for
+/// the kind of pins and the format of the sound, of which some has a route.
 ///
 /// # Errors
 /// Want of memory.
 pub fn play<S: Shelf>(
     alloc: Global,
     shelf: &mut S,
+    kind: PinKind,
     machine: Machine,
     plans: Vec<Plan>,
     head: WavHead,
@@ -126,14 +127,14 @@ pub fn play<S: Shelf>(
 ) -> Result<Played, AllocError>
     requires sound { IsSound machine }
     requires whole { IsWhole machine }
-    requires plans { HavePlans head.format machine.codecs plans.items }
+    requires plans { HavePlansOf kind head.format machine.codecs plans.items }
     requires routed { have_route plans.items ≡ true }
     requires short { head.length ≤ 67108864 }
     requires within { head.from + head.frames * frame_length head.mono (layout head.format) ≤ head.length }
     requires format { geometry.format ≡ head.format }
     requires fifo { geometry.fifo ≡ machine.fifo }
     requires limits { IsLimited schedule.now }
-    ensures played { IfOk result (λ played. spec.IsPlayedFrom (S.told shelf.old) name.now head machine plans.items
+    ensures played { IfOk result (λ played. spec.IsPlayedFrom kind (S.told shelf.old) name.now head machine plans.items
         geometry schedule.now played) }
     ensures cut { IfOk result (λ played. spec.IsCutUnder name.now head played.read
         (Rose (S.faults shelf.old name.now) (S.faults shelf.new name.now))
@@ -148,19 +149,26 @@ pub fn play<S: Shelf>(
     ensures later { (other : List ℕ) → S.faults shelf.old other ≤ S.faults shelf.new other }
     ensures empties_later { (other : List ℕ) → S.empties shelf.old other ≤ S.empties shelf.new other }
 {
-    machines_have_tasks::<Analog>();
+    machines_have_tasks::<Outputs>();
     machines_rest();
-    opened_drivers_can_begin::<Analog>();
-    drivers_keep_to_progress::<Analog>();
-    one_order();
+    opened_drivers_can_begin::<Outputs>();
+    drivers_keep_to_progress::<Outputs>();
+    one_order_of_each_kind();
     runs_keep_the_course();
     runs_write_the_line();
     let format = head.format;
     let total = head.frames;
-    let commands = command_count(alloc, machine.codecs.as_slice(), plans.as_slice(), format)?;
-    let mut rig = Rig::new(alloc, machine)?;
+    let commands = command_count(
+        alloc,
+        kind,
+        machine.codecs.as_slice(),
+        plans.as_slice(),
+        format,
+    )?;
+    let mut rig = Rig::of_kind(alloc, kind, machine)?;
     let supply = Supply::stream(alloc, head, name, geometry.ring())?;
-    let driver = open_driver(alloc, geometry, supply, line_count(schedule), true)?;
+    let setter = Outputs { kind };
+    let driver = open_driver(alloc, setter, geometry, supply, line_count(schedule), true)?;
     let mut cut = None;
     let driven = drive(
         alloc,

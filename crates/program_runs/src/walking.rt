@@ -24,7 +24,7 @@ use laws_driver::drivers_keep_to_progress;
 use laws_start::{machines_have_tasks, machines_rest, opened_drivers_can_begin};
 use period_writer::Geometry;
 use rig::Rig;
-use route_planner::Plan;
+use route_planner::{PinKind, Plan};
 use route_setup::Analog;
 use schedule_reader::Schedule;
 use sound_report::{PlayFault, Played};
@@ -81,7 +81,7 @@ fn silent_driver(alloc: Global, fifo: u16, calls: u32) -> Result<Driver<Analog>,
     let Ok(geometry) = Geometry::new(PERIODS, PERIOD, fifo, walk_format()) else {
         unreachable!();
     };
-    let driver = open_driver(alloc, geometry, no_sound(alloc), calls, false)?;
+    let driver = open_driver(alloc, Analog, geometry, no_sound(alloc), calls, false)?;
     Ok(driver)
 }
 
@@ -141,6 +141,7 @@ pub fn walk(
     drivers_keep_to_progress::<Analog>();
     let commands = command_count(
         alloc,
+        PinKind::Analog,
         machine.codecs.as_slice(),
         plans.as_slice(),
         walk_format(),

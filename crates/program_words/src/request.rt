@@ -3,7 +3,7 @@ ghost use Rattle.std.specs.Prelude.{◌≡◌, IfOk, IfSome, Some, None, Err, ma
 ghost use Rattle.stream_format.specs.Cadence.{hertz};
 ghost use Rattle.program_words.specs.Asked.{asked_by, asked_of, bits_of, request_of, IsInRange};
 ghost use Rattle.program_words.specs.Commands.{bits_option, channels_option, make_grammar, play_grammar, rate_option};
-ghost use Rattle.program_words.specs.Commands.{route_grammar, walk_grammar};
+ghost use Rattle.program_words.specs.Commands.{route_grammar, spdif_grammar, walk_grammar};
 ghost use Rattle.program_words.specs.Lines.{IsLineOf};
 ghost use Rattle.program_words.specs.Numbers.{is_taken};
 ghost use Rattle.program_words.specs.Seen.{line_seen};
@@ -31,7 +31,7 @@ pub enum Request<'a> {
         /// The name of the schedule.
         schedule: &'a str,
     },
-    /// Plays a WAV file through the machine of a codec file by a schedule.
+    /// Plays a WAV file through the analog pins of the machine of a codec file by a schedule.
     Play {
         /// The name of the codec file.
         codec: &'a str,
@@ -48,6 +48,19 @@ pub enum Request<'a> {
     Make {
         /// The number.
         number: u16,
+    },
+    /// Plays a WAV file through the digital pins of the machine of a codec file by a schedule.
+    Spdif {
+        /// The name of the codec file.
+        codec: &'a str,
+        /// The name of the WAV file.
+        wav: &'a str,
+        /// The name of the schedule.
+        schedule: &'a str,
+        /// How many periods the ring of sound has: 2 to 32.
+        periods: u8,
+        /// How many units of 384 bytes a period has: 1 to 128.
+        period: u8,
     },
 }
 
@@ -156,6 +169,21 @@ pub(crate) fn play_of<'a>(line: &Line<'a>) -> Request<'a>
     }
 }
 
+/// What a line of `spdif` asks.
+fn spdif_of<'a>(line: &Line<'a>) -> Request<'a>
+    requires { IsLineOf spdif_grammar (line_seen line.now) }
+    ensures asked { asked_of CommandName.Spdif (line_seen line.now) ≡ Some (asked_by result) }
+    ensures ranges { IsInRange result }
+{
+    Request::Spdif {
+        codec: line.operands[0],
+        wav: line.operands[1],
+        schedule: line.operands[2],
+        periods: line.numbers[0] as u8,
+        period: line.numbers[1] as u8,
+    }
+}
+
 /// What a line of `make` asks, where its operand is a number of which an input is made.
 fn make_of<'a>(line: &Line<'a>) -> Option<Request<'a>>
     requires { IsLineOf make_grammar (line_seen line.now) }
@@ -190,5 +218,6 @@ pub fn read_words<'a>(alloc: Global, words: &'a [String]) -> Result<Request<'a>,
         CommandName::Walk => Ok(walk_of(&line)),
         CommandName::Play => Ok(play_of(&line)),
         CommandName::Make => make_of(&line).ok_or(WordsFault::NoCommand),
+        CommandName::Spdif => Ok(spdif_of(&line)),
     }
 }

@@ -11,10 +11,12 @@ pub enum CommandName {
     Route,
     /// Sets the codecs of a codec file up by a schedule.
     Walk,
-    /// Plays a WAV file through the codecs of a codec file by a schedule.
+    /// Plays a WAV file through the analog pins of a codec file by a schedule.
     Play,
     /// Plays the input that is made of a number.
     Make,
+    /// Plays a WAV file through the digital pins of a codec file by a schedule.
+    Spdif,
 }
 
 /// The numbers that an option takes.
@@ -110,7 +112,15 @@ const MAKE: CommandRow = CommandRow {
     options: &[],
 };
 
-const COMMANDS: [CommandRow; 4] = [ROUTE, WALK, PLAY, MAKE];
+/// `spdif CODEC WAV SCHEDULE [--periods K] [--period M]`
+const SPDIF: CommandRow = CommandRow {
+    command: CommandName::Spdif,
+    name: "spdif",
+    operands: 3,
+    options: &PLAY_OPTIONS,
+};
+
+const COMMANDS: [CommandRow; 5] = [ROUTE, WALK, PLAY, MAKE, SPDIF];
 
 /// The numbers of which an input is made.
 pub const MADE_NUMBERS: Numbers = Numbers::Between(0, 65535);

@@ -12,7 +12,7 @@ use std::process::ExitCode;
 use test_cases::{Cases, run_cases, text_of};
 
 /// The files of cases.
-const FILES: [&str; 11] = [
+const FILES: [&str; 12] = [
     "parts.txt",
     "routes.txt",
     "keys.txt",
@@ -24,6 +24,7 @@ const FILES: [&str; 11] = [
     "channels.txt",
     "cuts.txt",
     "makes.txt",
+    "spdif.txt",
 ];
 
 /// The ways in which cases are run.

@@ -20,6 +20,17 @@ fn request_text(alloc: Global, request: &Request<'_>) -> Result<String, AllocErr
             )
         }
         Request::Make { number } => format!(in alloc; "make {number}"),
+        Request::Spdif {
+            codec,
+            wav,
+            schedule,
+            periods,
+            period,
+        } => {
+            format!(in alloc;
+                "spdif {codec:?} {wav:?} {schedule:?} periods {periods} period {period}"
+            )
+        }
     }
 }
 

@@ -50,3 +50,21 @@ returns-in-Play-clause-asked g c = λ other apart.
     let P : Request → Type 0 = λ asked. Contains (files_of (asked_by asked)) other → ⊥ in
     let apart_from = other_three c.in-Play.codec.now c.in-Play.wav.now c.in-Play.schedule.now other (subst P c.in-Play.is apart) in
     c.answer_play.ensures.asked other apart_from.first apart_from.second apart_from.third
+
+pub answer_play-requires-in-Spdif : goal.answer_play-requires-in-Spdif
+answer_play-requires-in-Spdif g c = let P : Request → Type 0 = λ asked. IsInRange asked in record { ring = subst P c.in-Spdif.is c.requires.ranges }
+
+pub returns-in-Spdif-clause-answers : goal.returns-in-Spdif-clause-answers
+returns-in-Spdif-clause-answers g c =
+    let failed : List ℕ → Type 0 = λ name. Rose (g.S.Shelf.faults c.args.shelf.now name) (g.S.Shelf.faults c.answer_play-in-Spdif.new.shelf name) in
+    let emptied : List ℕ → Type 0 = λ name. Rose (g.S.Shelf.empties c.args.shelf.now name) (g.S.Shelf.empties c.answer_play-in-Spdif.new.shelf name) in
+    let unasked : List ℕ → Type 0 = λ name. g.S.Shelf.asked c.answer_play-in-Spdif.new.shelf name ≡ g.S.Shelf.asked c.args.shelf.now name in
+    let gave : ℕ → Type 0 = λ n. g.S.Shelf.given c.answer_play-in-Spdif.new.shelf ≤ g.S.Shelf.given c.args.shelf.now + n in
+    let P : Request → Type 0 = λ asked. IfOk c.answer_play-in-Spdif.result (λ answer. RequestAnswers (g.S.Shelf.told c.args.shelf.now) failed emptied unasked gave asked (answer_meant answer)) in
+    subst P (sym c.in-Spdif.is) c.answer_play-in-Spdif.ensures.answers
+
+pub returns-in-Spdif-clause-asked : goal.returns-in-Spdif-clause-asked
+returns-in-Spdif-clause-asked g c = λ other apart.
+    let P : Request → Type 0 = λ asked. Contains (files_of (asked_by asked)) other → ⊥ in
+    let apart_from = other_three c.in-Spdif.codec.now c.in-Spdif.wav.now c.in-Spdif.schedule.now other (subst P c.in-Spdif.is apart) in
+    c.answer_play-in-Spdif.ensures.asked other apart_from.first apart_from.second apart_from.third

@@ -1,4 +1,5 @@
 use Rattle.std.proofs.Common.{◌≡◌, ◌+◌, ◌≤◌, inl, inr}
+use Rattle.route_planner.specs.declared.pin_kind.PinKind.TheVariants.{Analog}
 use Rattle.hda_outside.specs.Counts.{Rose}
 use Rattle.hda_program.specs.Meanings.{answer_meant}
 use Rattle.hda_program.proofs.Complete.{files_complete, files_given}
@@ -7,49 +8,49 @@ use Rattle.hda_program.proofs.Served.{files_serve, files_serve_whole}
 use Rattle.hda_program.proofs.files.play_files.Goals as goal
 
 pub returns-in-Ok-clause-promise : goal.returns-in-Ok-clause-promise
-returns-in-Ok-clause-promise g c = files_promised (g.S.Shelf.told c.args.shelf.now) (λ name. Rose (g.S.Shelf.faults c.args.shelf.now name) (g.S.Shelf.faults c.answer_play.new.shelf name))
+returns-in-Ok-clause-promise g c = files_promised Analog (g.S.Shelf.told c.args.shelf.now) (λ name. Rose (g.S.Shelf.faults c.args.shelf.now name) (g.S.Shelf.faults c.answer_play.new.shelf name))
     (λ name. Rose (g.S.Shelf.empties c.args.shelf.now name) (g.S.Shelf.empties c.answer_play.new.shelf name)) (λ name. g.S.Shelf.asked c.answer_play.new.shelf name ≡ g.S.Shelf.asked c.args.shelf.now name) (λ n. g.S.Shelf.given c.answer_play.new.shelf ≤ g.S.Shelf.given c.args.shelf.now + n)
     c.args.codec.now c.args.wav.now c.args.schedule.now c.args.periods c.args.period (g.K.Sink.taken c.args.out.now) (g.K.Sink.taken c.write_answer.new.out)
     (Rose (g.K.Sink.faults c.args.out.now) (g.K.Sink.faults c.write_answer.new.out)) c.write_answer.result.play c.write_answer.result.status
     (inl (record { meant = answer_meant c.in-Ok.answer; is = c.in-Ok.ensures.answers; given = c.write_answer.ensures.play; written = c.write_answer.ensures.written }))
 
 pub returns-in-Ok-clause-runless : goal.returns-in-Ok-clause-runless
-returns-in-Ok-clause-runless g c = files_runless (g.S.Shelf.told c.args.shelf.now) (λ name. Rose (g.S.Shelf.faults c.args.shelf.now name) (g.S.Shelf.faults c.answer_play.new.shelf name))
+returns-in-Ok-clause-runless g c = files_runless Analog (g.S.Shelf.told c.args.shelf.now) (λ name. Rose (g.S.Shelf.faults c.args.shelf.now name) (g.S.Shelf.faults c.answer_play.new.shelf name))
     (λ name. Rose (g.S.Shelf.empties c.args.shelf.now name) (g.S.Shelf.empties c.answer_play.new.shelf name)) (λ name. g.S.Shelf.asked c.answer_play.new.shelf name ≡ g.S.Shelf.asked c.args.shelf.now name) (λ n. g.S.Shelf.given c.answer_play.new.shelf ≤ g.S.Shelf.given c.args.shelf.now + n)
     c.args.codec.now c.args.wav.now c.args.schedule.now c.args.periods c.args.period (g.K.Sink.taken c.args.out.now) (g.K.Sink.taken c.write_answer.new.out)
     (Rose (g.K.Sink.faults c.args.out.now) (g.K.Sink.faults c.write_answer.new.out)) c.write_answer.result.play c.write_answer.result.status
     (inl (record { meant = answer_meant c.in-Ok.answer; is = c.in-Ok.ensures.answers; given = c.write_answer.ensures.play; written = c.write_answer.ensures.written }))
 
 pub returns-in-Ok-clause-runs : goal.returns-in-Ok-clause-runs
-returns-in-Ok-clause-runs g c = files_runs (g.S.Shelf.told c.args.shelf.now) (λ name. Rose (g.S.Shelf.faults c.args.shelf.now name) (g.S.Shelf.faults c.answer_play.new.shelf name))
+returns-in-Ok-clause-runs g c = files_runs Analog (g.S.Shelf.told c.args.shelf.now) (λ name. Rose (g.S.Shelf.faults c.args.shelf.now name) (g.S.Shelf.faults c.answer_play.new.shelf name))
     (λ name. Rose (g.S.Shelf.empties c.args.shelf.now name) (g.S.Shelf.empties c.answer_play.new.shelf name)) (λ name. g.S.Shelf.asked c.answer_play.new.shelf name ≡ g.S.Shelf.asked c.args.shelf.now name) (λ n. g.S.Shelf.given c.answer_play.new.shelf ≤ g.S.Shelf.given c.args.shelf.now + n)
     c.args.codec.now c.args.wav.now c.args.schedule.now c.args.periods c.args.period (g.K.Sink.taken c.args.out.now) (g.K.Sink.taken c.write_answer.new.out)
     (Rose (g.K.Sink.faults c.args.out.now) (g.K.Sink.faults c.write_answer.new.out)) c.write_answer.result.play c.write_answer.result.status
     (inl (record { meant = answer_meant c.in-Ok.answer; is = c.in-Ok.ensures.answers; given = c.write_answer.ensures.play; written = c.write_answer.ensures.written }))
 
 pub returns-in-Ok-clause-stopped_unread : goal.returns-in-Ok-clause-stopped_unread
-returns-in-Ok-clause-stopped_unread g c = files_stopped (g.S.Shelf.told c.args.shelf.now) (λ name. Rose (g.S.Shelf.faults c.args.shelf.now name) (g.S.Shelf.faults c.answer_play.new.shelf name))
+returns-in-Ok-clause-stopped_unread g c = files_stopped Analog (g.S.Shelf.told c.args.shelf.now) (λ name. Rose (g.S.Shelf.faults c.args.shelf.now name) (g.S.Shelf.faults c.answer_play.new.shelf name))
     (λ name. Rose (g.S.Shelf.empties c.args.shelf.now name) (g.S.Shelf.empties c.answer_play.new.shelf name)) (λ name. g.S.Shelf.asked c.answer_play.new.shelf name ≡ g.S.Shelf.asked c.args.shelf.now name) (λ n. g.S.Shelf.given c.answer_play.new.shelf ≤ g.S.Shelf.given c.args.shelf.now + n)
     c.args.codec.now c.args.wav.now c.args.schedule.now c.args.periods c.args.period (g.K.Sink.taken c.args.out.now) (g.K.Sink.taken c.write_answer.new.out)
     (Rose (g.K.Sink.faults c.args.out.now) (g.K.Sink.faults c.write_answer.new.out)) c.write_answer.result.play c.write_answer.result.status
     (inl (record { meant = answer_meant c.in-Ok.answer; is = c.in-Ok.ensures.answers; given = c.write_answer.ensures.play; written = c.write_answer.ensures.written }))
 
 pub returns-in-Ok-clause-unread_run : goal.returns-in-Ok-clause-unread_run
-returns-in-Ok-clause-unread_run g c = files_unread (g.S.Shelf.told c.args.shelf.now) (λ name. Rose (g.S.Shelf.faults c.args.shelf.now name) (g.S.Shelf.faults c.answer_play.new.shelf name))
+returns-in-Ok-clause-unread_run g c = files_unread Analog (g.S.Shelf.told c.args.shelf.now) (λ name. Rose (g.S.Shelf.faults c.args.shelf.now name) (g.S.Shelf.faults c.answer_play.new.shelf name))
     (λ name. Rose (g.S.Shelf.empties c.args.shelf.now name) (g.S.Shelf.empties c.answer_play.new.shelf name)) (λ name. g.S.Shelf.asked c.answer_play.new.shelf name ≡ g.S.Shelf.asked c.args.shelf.now name) (λ n. g.S.Shelf.given c.answer_play.new.shelf ≤ g.S.Shelf.given c.args.shelf.now + n)
     c.args.codec.now c.args.wav.now c.args.schedule.now c.args.periods c.args.period (g.K.Sink.taken c.args.out.now) (g.K.Sink.taken c.write_answer.new.out)
     (Rose (g.K.Sink.faults c.args.out.now) (g.K.Sink.faults c.write_answer.new.out)) c.write_answer.result.play c.write_answer.result.status
     (inl (record { meant = answer_meant c.in-Ok.answer; is = c.in-Ok.ensures.answers; given = c.write_answer.ensures.play; written = c.write_answer.ensures.written }))
 
 pub returns-in-Ok-clause-shrunk_run : goal.returns-in-Ok-clause-shrunk_run
-returns-in-Ok-clause-shrunk_run g c = files_shrunk (g.S.Shelf.told c.args.shelf.now) (λ name. Rose (g.S.Shelf.faults c.args.shelf.now name) (g.S.Shelf.faults c.answer_play.new.shelf name))
+returns-in-Ok-clause-shrunk_run g c = files_shrunk Analog (g.S.Shelf.told c.args.shelf.now) (λ name. Rose (g.S.Shelf.faults c.args.shelf.now name) (g.S.Shelf.faults c.answer_play.new.shelf name))
     (λ name. Rose (g.S.Shelf.empties c.args.shelf.now name) (g.S.Shelf.empties c.answer_play.new.shelf name)) (λ name. g.S.Shelf.asked c.answer_play.new.shelf name ≡ g.S.Shelf.asked c.args.shelf.now name) (λ n. g.S.Shelf.given c.answer_play.new.shelf ≤ g.S.Shelf.given c.args.shelf.now + n)
     c.args.codec.now c.args.wav.now c.args.schedule.now c.args.periods c.args.period (g.K.Sink.taken c.args.out.now) (g.K.Sink.taken c.write_answer.new.out)
     (Rose (g.K.Sink.faults c.args.out.now) (g.K.Sink.faults c.write_answer.new.out)) c.write_answer.result.play c.write_answer.result.status
     (inl (record { meant = answer_meant c.in-Ok.answer; is = c.in-Ok.ensures.answers; given = c.write_answer.ensures.play; written = c.write_answer.ensures.written }))
 
 pub returns-in-Ok-clause-never_shrinks : goal.returns-in-Ok-clause-never_shrinks
-returns-in-Ok-clause-never_shrinks g c = files_never_shrink (λ name. Rose (g.S.Shelf.faults c.args.shelf.now name) (g.S.Shelf.faults c.answer_play.new.shelf name))
+returns-in-Ok-clause-never_shrinks g c = files_never_shrink Analog (λ name. Rose (g.S.Shelf.faults c.args.shelf.now name) (g.S.Shelf.faults c.answer_play.new.shelf name))
     (λ name. Rose (g.S.Shelf.empties c.args.shelf.now name) (g.S.Shelf.empties c.answer_play.new.shelf name)) (λ name. g.S.Shelf.asked c.answer_play.new.shelf name ≡ g.S.Shelf.asked c.args.shelf.now name) (λ n. g.S.Shelf.given c.answer_play.new.shelf ≤ g.S.Shelf.given c.args.shelf.now + n)
     c.args.codec.now c.args.wav.now c.args.schedule.now c.args.periods c.args.period (g.K.Sink.taken c.args.out.now) (g.K.Sink.taken c.write_answer.new.out)
     (Rose (g.K.Sink.faults c.args.out.now) (g.K.Sink.faults c.write_answer.new.out)) c.write_answer.result.play c.write_answer.result.status
@@ -61,7 +62,7 @@ returns-in-Ok-clause-completes g c = λ can sink. files_complete (g.K.Sink.taken
     (Rose (g.K.Sink.faults c.args.out.now) (g.K.Sink.faults c.write_answer.new.out)) c.write_answer.result.play c.write_answer.result.status sink
     (g.S.Shelf.told c.args.shelf.now) (λ name. Rose (g.S.Shelf.faults c.args.shelf.now name) (g.S.Shelf.faults c.answer_play.new.shelf name))
     (λ name. Rose (g.S.Shelf.empties c.args.shelf.now name) (g.S.Shelf.empties c.answer_play.new.shelf name)) (λ name. g.S.Shelf.asked c.answer_play.new.shelf name ≡ g.S.Shelf.asked c.args.shelf.now name) (λ n. g.S.Shelf.given c.answer_play.new.shelf ≤ g.S.Shelf.given c.args.shelf.now + n)
-    c.args.codec.now c.args.wav.now c.args.schedule.now c.args.periods c.args.period can
+    Analog c.args.codec.now c.args.wav.now c.args.schedule.now c.args.periods c.args.period can
     (inl (record { meant = answer_meant c.in-Ok.answer; is = c.in-Ok.ensures.answers; given = c.write_answer.ensures.play; written = c.write_answer.ensures.written }))
 
 pub returns-in-Ok-clause-given : goal.returns-in-Ok-clause-given
@@ -69,7 +70,7 @@ returns-in-Ok-clause-given g c = λ can enough. files_given (g.K.Sink.taken c.ar
     (Rose (g.K.Sink.faults c.args.out.now) (g.K.Sink.faults c.write_answer.new.out)) c.write_answer.result.play c.write_answer.result.status enough
     (g.S.Shelf.told c.args.shelf.now) (λ name. Rose (g.S.Shelf.faults c.args.shelf.now name) (g.S.Shelf.faults c.answer_play.new.shelf name))
     (λ name. Rose (g.S.Shelf.empties c.args.shelf.now name) (g.S.Shelf.empties c.answer_play.new.shelf name)) (λ name. g.S.Shelf.asked c.answer_play.new.shelf name ≡ g.S.Shelf.asked c.args.shelf.now name) (λ n. g.S.Shelf.given c.answer_play.new.shelf ≤ g.S.Shelf.given c.args.shelf.now + n)
-    c.args.codec.now c.args.wav.now c.args.schedule.now c.args.periods c.args.period can
+    Analog c.args.codec.now c.args.wav.now c.args.schedule.now c.args.periods c.args.period can
     (inl (record { meant = answer_meant c.in-Ok.answer; is = c.in-Ok.ensures.answers; given = c.write_answer.ensures.play; written = c.write_answer.ensures.written }))
 
 pub returns-in-Ok-clause-served : goal.returns-in-Ok-clause-served
@@ -77,8 +78,8 @@ returns-in-Ok-clause-served g c = λ geometry can sink shape serves. files_serve
     (Rose (g.K.Sink.faults c.args.out.now) (g.K.Sink.faults c.write_answer.new.out)) c.write_answer.result.play c.write_answer.result.status sink
     (g.S.Shelf.told c.args.shelf.now) (λ name. Rose (g.S.Shelf.faults c.args.shelf.now name) (g.S.Shelf.faults c.answer_play.new.shelf name))
     (λ name. Rose (g.S.Shelf.empties c.args.shelf.now name) (g.S.Shelf.empties c.answer_play.new.shelf name)) (λ name. g.S.Shelf.asked c.answer_play.new.shelf name ≡ g.S.Shelf.asked c.args.shelf.now name) (λ n. g.S.Shelf.given c.answer_play.new.shelf ≤ g.S.Shelf.given c.args.shelf.now + n)
-    (λ machine plans wav geometry schedule played sound read. c.plays_end_so.ensures machine plans wav geometry schedule played sound (c.read_machines_are_whole.ensures machine sound read))
-    (λ machine plans wav geometry schedule played frames sound read. c.plays_all_so.ensures machine plans wav geometry schedule played frames sound (c.read_machines_are_whole.ensures machine sound read)) c.args.codec.now c.args.wav.now c.args.schedule.now c.args.periods c.args.period geometry can shape serves
+    Analog (λ kind machine plans wav geometry schedule played sound read. c.plays_end_so.ensures kind machine plans wav geometry schedule played sound (c.read_machines_are_whole.ensures machine sound read))
+    (λ kind machine plans wav geometry schedule played frames sound read. c.plays_all_so.ensures kind machine plans wav geometry schedule played frames sound (c.read_machines_are_whole.ensures machine sound read)) c.args.codec.now c.args.wav.now c.args.schedule.now c.args.periods c.args.period geometry can shape serves
     (inl (record { meant = answer_meant c.in-Ok.answer; is = c.in-Ok.ensures.answers; given = c.write_answer.ensures.play; written = c.write_answer.ensures.written }))
 
 pub returns-in-Ok-clause-served_whole : goal.returns-in-Ok-clause-served_whole
@@ -86,8 +87,8 @@ returns-in-Ok-clause-served_whole g c = λ geometry can sink shape serves. files
     (Rose (g.K.Sink.faults c.args.out.now) (g.K.Sink.faults c.write_answer.new.out)) c.write_answer.result.play c.write_answer.result.status sink
     (g.S.Shelf.told c.args.shelf.now) (λ name. Rose (g.S.Shelf.faults c.args.shelf.now name) (g.S.Shelf.faults c.answer_play.new.shelf name))
     (λ name. Rose (g.S.Shelf.empties c.args.shelf.now name) (g.S.Shelf.empties c.answer_play.new.shelf name)) (λ name. g.S.Shelf.asked c.answer_play.new.shelf name ≡ g.S.Shelf.asked c.args.shelf.now name) (λ n. g.S.Shelf.given c.answer_play.new.shelf ≤ g.S.Shelf.given c.args.shelf.now + n)
-    (λ machine plans wav geometry schedule played sound read. c.plays_end_so.ensures machine plans wav geometry schedule played sound (c.read_machines_are_whole.ensures machine sound read))
-    (λ machine plans wav geometry schedule played frames sound read. c.plays_all_so.ensures machine plans wav geometry schedule played frames sound (c.read_machines_are_whole.ensures machine sound read)) c.args.codec.now c.args.wav.now c.args.schedule.now c.args.periods c.args.period geometry can shape serves
+    Analog (λ kind machine plans wav geometry schedule played sound read. c.plays_end_so.ensures kind machine plans wav geometry schedule played sound (c.read_machines_are_whole.ensures machine sound read))
+    (λ kind machine plans wav geometry schedule played frames sound read. c.plays_all_so.ensures kind machine plans wav geometry schedule played frames sound (c.read_machines_are_whole.ensures machine sound read)) c.args.codec.now c.args.wav.now c.args.schedule.now c.args.periods c.args.period geometry can shape serves
     (inl (record { meant = answer_meant c.in-Ok.answer; is = c.in-Ok.ensures.answers; given = c.write_answer.ensures.play; written = c.write_answer.ensures.written }))
 
 pub returns-in-Err-clause-served : goal.returns-in-Err-clause-served

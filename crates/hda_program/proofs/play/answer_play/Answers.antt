@@ -36,12 +36,12 @@ returns-in-Ok-clause-answers g c =
     let gave_later : ℕ → Type 0 = λ n. given c.play_machine.new.shelf ≤ given c.read_codec_file.new.shelf + n in
     let gave : ℕ → Type 0 = λ n. given c.play_machine.new.shelf ≤ given c.args.shelf.now + n in
     let read = subst (λ (r : Result Machine Message). IsCodecRead told early gave_early c.args.codec.now r) c.in-Ok.is c.in_ok-machine.ensures.read in
-    let answers = subst (λ (files : Option Files). IfOk c.play_machine.result (λ answer. MachinePlays files later emptied_later unasked_later gave_later c.args.periods c.args.period c.in-Ok.machine c.args.wav.now c.args.schedule.now (answer_meant answer))) c.read_codec_file.ensures.told c.play_machine.ensures.answers in
+    let answers = subst (λ (files : Option Files). IfOk c.play_machine.result (λ answer. MachinePlays c.args.kind files later emptied_later unasked_later gave_later c.args.periods c.args.period c.in-Ok.machine c.args.wav.now c.args.schedule.now (answer_meant answer))) c.read_codec_file.ensures.told c.play_machine.ensures.answers in
     IfOk-weaker c.play_machine.result
-    (λ answer. MachinePlays told later emptied_later unasked_later gave_later c.args.periods c.args.period c.in-Ok.machine c.args.wav.now c.args.schedule.now (answer_meant answer))
-    (λ answer. PlayAnswers told failed emptied unasked gave c.args.codec.now c.args.wav.now c.args.schedule.now c.args.periods c.args.period (answer_meant answer))
-    (λ answer h. of_machine told failed emptied unasked gave c.args.codec.now c.args.wav.now c.args.schedule.now c.args.periods c.args.period (answer_meant answer) c.in-Ok.machine read.0
-    (MachinePlays-both told later emptied_later failed emptied (answer_meant answer)
+    (λ answer. MachinePlays c.args.kind told later emptied_later unasked_later gave_later c.args.periods c.args.period c.in-Ok.machine c.args.wav.now c.args.schedule.now (answer_meant answer))
+    (λ answer. PlayAnswers c.args.kind told failed emptied unasked gave c.args.codec.now c.args.wav.now c.args.schedule.now c.args.periods c.args.period (answer_meant answer))
+    (λ answer h. of_machine c.args.kind told failed emptied unasked gave c.args.codec.now c.args.wav.now c.args.schedule.now c.args.periods c.args.period (answer_meant answer) c.in-Ok.machine read.0
+    (MachinePlays-both c.args.kind told later emptied_later failed emptied (answer_meant answer)
     (λ name rose. Rose-longer (faults c.args.shelf.now name) (faults c.read_codec_file.new.shelf name) (faults c.play_machine.new.shelf name) (faults c.play_machine.new.shelf name) (c.read_codec_file.ensures.later name) rose (le_refl (faults c.play_machine.new.shelf name)))
     (λ name rose. Rose-longer (empties c.args.shelf.now name) (empties c.read_codec_file.new.shelf name) (empties c.play_machine.new.shelf name) (empties c.play_machine.new.shelf name) (c.read_codec_file.ensures.empties_later name) rose (le_refl (empties c.play_machine.new.shelf name)))
     unasked_later beside (λ other still apart. still ∙ c.read_codec_file.ensures.asked other apart)

@@ -20,6 +20,6 @@ returns-in-Ok-clause-answers g c =
       format_is = c.in-Ok.ensures.format;
     } in
     IfOk-weaker c.play_ring.result
-    (λ answer. RingPlays told failed emptied gave c.args.wav.now c.args.machine c.args.head c.in-Ok.geometry c.args.schedule.now (answer_meant answer))
-    (λ answer. SchedulePlays told failed emptied gave c.args.periods c.args.period c.args.wav.now c.args.machine c.args.head c.args.schedule.now (answer_meant answer))
+    (λ answer. RingPlays c.args.kind told failed emptied gave c.args.wav.now c.args.machine c.args.head c.in-Ok.geometry c.args.schedule.now (answer_meant answer))
+    (λ answer. SchedulePlays c.args.kind told failed emptied gave c.args.periods c.args.period c.args.wav.now c.args.machine c.args.head c.args.schedule.now (answer_meant answer))
     (λ answer h. inr (c.in-Ok.geometry, ring, h)) c.play_ring.ensures.answers

@@ -35,14 +35,14 @@ returns-in-Ok-clause-answers g c =
     let gave_later : ℕ → Type 0 = λ n. given c.play_schedule.new.shelf ≤ given c.read_schedule_file.new.shelf + n in
     let gave : ℕ → Type 0 = λ n. given c.play_schedule.new.shelf ≤ given c.args.shelf.now + n in
     let read = subst (λ (r : Result Schedule Message). IsScheduleRead told early gave_early c.args.schedule.now r) c.in-Ok.is c.in_ok-steps.ensures.read in
-    let answers = subst (λ (files : Option Files). IfOk c.play_schedule.result (λ answer. SchedulePlays files later emptied_later gave_later c.args.periods c.args.period c.args.wav.now c.args.machine c.args.head c.in-Ok.steps (answer_meant answer))) c.read_schedule_file.ensures.told c.play_schedule.ensures.answers in
+    let answers = subst (λ (files : Option Files). IfOk c.play_schedule.result (λ answer. SchedulePlays c.args.kind files later emptied_later gave_later c.args.periods c.args.period c.args.wav.now c.args.machine c.args.head c.in-Ok.steps (answer_meant answer))) c.read_schedule_file.ensures.told c.play_schedule.ensures.answers in
     IfOk-weaker c.play_schedule.result
-    (λ answer. SchedulePlays told later emptied_later gave_later c.args.periods c.args.period c.args.wav.now c.args.machine c.args.head c.in-Ok.steps (answer_meant answer))
-    (λ answer. SoundPlays told failed emptied gave c.args.periods c.args.period c.args.wav.now c.args.machine c.args.head c.args.schedule.now (answer_meant answer))
+    (λ answer. SchedulePlays c.args.kind told later emptied_later gave_later c.args.periods c.args.period c.args.wav.now c.args.machine c.args.head c.in-Ok.steps (answer_meant answer))
+    (λ answer. SoundPlays c.args.kind told failed emptied gave c.args.periods c.args.period c.args.wav.now c.args.machine c.args.head c.args.schedule.now (answer_meant answer))
     (λ answer h. inr (
       c.in-Ok.steps,
       read.0,
-      SchedulePlays-both told later emptied_later failed emptied (answer_meant answer)
+      SchedulePlays-both c.args.kind told later emptied_later failed emptied (answer_meant answer)
           (λ name rose. Rose-longer (faults c.args.shelf.now name) (faults c.read_schedule_file.new.shelf name) (faults c.play_schedule.new.shelf name) (faults c.play_schedule.new.shelf name) (c.read_schedule_file.ensures.later name) rose (le_refl (faults c.play_schedule.new.shelf name)))
           (λ name rose. Rose-longer (empties c.args.shelf.now name) (empties c.read_schedule_file.new.shelf name) (empties c.play_schedule.new.shelf name) (empties c.play_schedule.new.shelf name) (c.read_schedule_file.ensures.empties_later name) rose (le_refl (empties c.play_schedule.new.shelf name)))
           gave_later (λ n. gave (length read.0.bytes + n)) (given_longer (given c.args.shelf.now) (given c.read_schedule_file.new.shelf) (given c.play_schedule.new.shelf) (length read.0.bytes) read.2)

@@ -1,10 +1,11 @@
 use Rattle.std.proofs.Common.{◌≡◌, ◌+◌, ◌≤◌, map, string_bytes, inl, inr}
+use Rattle.route_planner.specs.declared.pin_kind.PinKind.TheVariants.{Analog, Digital}
 use Rattle.hda_outside.specs.Counts.{Rose}
 use Rattle.hda_program.specs.Meanings.{answer_meant}
-use Rattle.hda_program.proofs.Complete.{play_complete, route_complete, walk_complete, play_given, walk_given}
-use Rattle.hda_program.proofs.Endings.{never_shrinks, refused_words, shrunk_run, sink_faulted, stopped_unread, run_promised, runless, unread_run, route_runless, walk_runs, play_runs, shelf_failed, refused_codec, refused_wav, refused_schedule, refused_geometry, was_routed, was_unrouted}
+use Rattle.hda_program.proofs.Complete.{route_complete, sound_complete, sound_given, walk_complete, walk_given}
+use Rattle.hda_program.proofs.Endings.{never_shrinks, refused_words, shrunk_run, sink_faulted, stopped_unread, run_promised, runless, unread_run, route_runless, walk_runs, sound_runs, shelf_failed, refused_codec, refused_wav, refused_schedule, refused_geometry, was_routed, was_unrouted}
 use Rattle.hda_program.proofs.MadeLemmas.{make_complete, make_runs}
-use Rattle.hda_program.proofs.Served.{play_serves, play_serves_whole, walk_serves}
+use Rattle.hda_program.proofs.Served.{sound_serves, sound_serves_whole, walk_serves}
 use Rattle.hda_program.proofs.run.hda_main.Goals as goal
 
 pub returns-in-Ok-clause-promise : goal.returns-in-Ok-clause-promise
@@ -36,11 +37,18 @@ returns-in-Ok-clause-walk_runs g c = walk_runs (g.S.Shelf.told c.args.shelf.now)
     (inl (record { meant = answer_meant c.in-Ok.answer; is = c.in-Ok.ensures.meant; given = c.write_answer.ensures.play; written = c.write_answer.ensures.written }))
 
 pub returns-in-Ok-clause-play_runs : goal.returns-in-Ok-clause-play_runs
-returns-in-Ok-clause-play_runs g c = play_runs (g.S.Shelf.told c.args.shelf.now) (λ name. Rose (g.S.Shelf.faults c.args.shelf.now name) (g.S.Shelf.faults c.answer_words.new.shelf name))
+returns-in-Ok-clause-play_runs g c = sound_runs (g.S.Shelf.told c.args.shelf.now) (λ name. Rose (g.S.Shelf.faults c.args.shelf.now name) (g.S.Shelf.faults c.answer_words.new.shelf name))
     (λ name. Rose (g.S.Shelf.empties c.args.shelf.now name) (g.S.Shelf.empties c.answer_words.new.shelf name)) (λ name. g.S.Shelf.asked c.answer_words.new.shelf name ≡ g.S.Shelf.asked c.args.shelf.now name) (λ n. g.S.Shelf.given c.answer_words.new.shelf ≤ g.S.Shelf.given c.args.shelf.now + n)
     (map string_bytes c.args.words.now) (g.K.Sink.taken c.args.out.now) (g.K.Sink.taken c.write_answer.new.out) (Rose (g.K.Sink.faults c.args.out.now) (g.K.Sink.faults c.write_answer.new.out))
     c.write_answer.result.play c.write_answer.result.status
-    (inl (record { meant = answer_meant c.in-Ok.answer; is = c.in-Ok.ensures.meant; given = c.write_answer.ensures.play; written = c.write_answer.ensures.written }))
+    (inl (record { meant = answer_meant c.in-Ok.answer; is = c.in-Ok.ensures.meant; given = c.write_answer.ensures.play; written = c.write_answer.ensures.written })) Analog
+
+pub returns-in-Ok-clause-spdif_runs : goal.returns-in-Ok-clause-spdif_runs
+returns-in-Ok-clause-spdif_runs g c = sound_runs (g.S.Shelf.told c.args.shelf.now) (λ name. Rose (g.S.Shelf.faults c.args.shelf.now name) (g.S.Shelf.faults c.answer_words.new.shelf name))
+    (λ name. Rose (g.S.Shelf.empties c.args.shelf.now name) (g.S.Shelf.empties c.answer_words.new.shelf name)) (λ name. g.S.Shelf.asked c.answer_words.new.shelf name ≡ g.S.Shelf.asked c.args.shelf.now name) (λ n. g.S.Shelf.given c.answer_words.new.shelf ≤ g.S.Shelf.given c.args.shelf.now + n)
+    (map string_bytes c.args.words.now) (g.K.Sink.taken c.args.out.now) (g.K.Sink.taken c.write_answer.new.out) (Rose (g.K.Sink.faults c.args.out.now) (g.K.Sink.faults c.write_answer.new.out))
+    c.write_answer.result.play c.write_answer.result.status
+    (inl (record { meant = answer_meant c.in-Ok.answer; is = c.in-Ok.ensures.meant; given = c.write_answer.ensures.play; written = c.write_answer.ensures.written })) Digital
 
 pub returns-in-Ok-clause-stopped_unread : goal.returns-in-Ok-clause-stopped_unread
 returns-in-Ok-clause-stopped_unread g c = stopped_unread (g.S.Shelf.told c.args.shelf.now) (λ name. Rose (g.S.Shelf.faults c.args.shelf.now name) (g.S.Shelf.faults c.answer_words.new.shelf name))
@@ -151,11 +159,19 @@ returns-in-Ok-clause-walk_completes g c = λ codec name walks can sink. walk_com
     (inl (record { meant = answer_meant c.in-Ok.answer; is = c.in-Ok.ensures.meant; given = c.write_answer.ensures.play; written = c.write_answer.ensures.written }))
 
 pub returns-in-Ok-clause-play_completes : goal.returns-in-Ok-clause-play_completes
-returns-in-Ok-clause-play_completes g c = λ codec wav name periods period plays can sink. play_complete (g.K.Sink.taken c.args.out.now) (g.K.Sink.taken c.write_answer.new.out)
+returns-in-Ok-clause-play_completes g c = λ codec wav name periods period plays can sink. sound_complete (g.K.Sink.taken c.args.out.now) (g.K.Sink.taken c.write_answer.new.out)
     (Rose (g.K.Sink.faults c.args.out.now) (g.K.Sink.faults c.write_answer.new.out)) c.write_answer.result.play c.write_answer.result.status sink
     (g.S.Shelf.told c.args.shelf.now) (λ name. Rose (g.S.Shelf.faults c.args.shelf.now name) (g.S.Shelf.faults c.answer_words.new.shelf name))
     (λ name. Rose (g.S.Shelf.empties c.args.shelf.now name) (g.S.Shelf.empties c.answer_words.new.shelf name)) (λ name. g.S.Shelf.asked c.answer_words.new.shelf name ≡ g.S.Shelf.asked c.args.shelf.now name) (λ n. g.S.Shelf.given c.answer_words.new.shelf ≤ g.S.Shelf.given c.args.shelf.now + n)
-    (map string_bytes c.args.words.now) codec wav name periods period plays can
+    (map string_bytes c.args.words.now) Analog codec wav name periods period plays can
+    (inl (record { meant = answer_meant c.in-Ok.answer; is = c.in-Ok.ensures.meant; given = c.write_answer.ensures.play; written = c.write_answer.ensures.written }))
+
+pub returns-in-Ok-clause-spdif_completes : goal.returns-in-Ok-clause-spdif_completes
+returns-in-Ok-clause-spdif_completes g c = λ codec wav name periods period plays can sink. sound_complete (g.K.Sink.taken c.args.out.now) (g.K.Sink.taken c.write_answer.new.out)
+    (Rose (g.K.Sink.faults c.args.out.now) (g.K.Sink.faults c.write_answer.new.out)) c.write_answer.result.play c.write_answer.result.status sink
+    (g.S.Shelf.told c.args.shelf.now) (λ name. Rose (g.S.Shelf.faults c.args.shelf.now name) (g.S.Shelf.faults c.answer_words.new.shelf name))
+    (λ name. Rose (g.S.Shelf.empties c.args.shelf.now name) (g.S.Shelf.empties c.answer_words.new.shelf name)) (λ name. g.S.Shelf.asked c.answer_words.new.shelf name ≡ g.S.Shelf.asked c.args.shelf.now name) (λ n. g.S.Shelf.given c.answer_words.new.shelf ≤ g.S.Shelf.given c.args.shelf.now + n)
+    (map string_bytes c.args.words.now) Digital codec wav name periods period plays can
     (inl (record { meant = answer_meant c.in-Ok.answer; is = c.in-Ok.ensures.meant; given = c.write_answer.ensures.play; written = c.write_answer.ensures.written }))
 
 pub returns-in-Ok-clause-walk_given : goal.returns-in-Ok-clause-walk_given
@@ -167,11 +183,19 @@ returns-in-Ok-clause-walk_given g c = λ codec name walks can enough. walk_given
     (inl (record { meant = answer_meant c.in-Ok.answer; is = c.in-Ok.ensures.meant; given = c.write_answer.ensures.play; written = c.write_answer.ensures.written }))
 
 pub returns-in-Ok-clause-play_given : goal.returns-in-Ok-clause-play_given
-returns-in-Ok-clause-play_given g c = λ codec wav name periods period plays can enough. play_given (g.K.Sink.taken c.args.out.now) (g.K.Sink.taken c.write_answer.new.out)
+returns-in-Ok-clause-play_given g c = λ codec wav name periods period plays can enough. sound_given (g.K.Sink.taken c.args.out.now) (g.K.Sink.taken c.write_answer.new.out)
     (Rose (g.K.Sink.faults c.args.out.now) (g.K.Sink.faults c.write_answer.new.out)) c.write_answer.result.play c.write_answer.result.status enough
     (g.S.Shelf.told c.args.shelf.now) (λ name. Rose (g.S.Shelf.faults c.args.shelf.now name) (g.S.Shelf.faults c.answer_words.new.shelf name))
     (λ name. Rose (g.S.Shelf.empties c.args.shelf.now name) (g.S.Shelf.empties c.answer_words.new.shelf name)) (λ name. g.S.Shelf.asked c.answer_words.new.shelf name ≡ g.S.Shelf.asked c.args.shelf.now name) (λ n. g.S.Shelf.given c.answer_words.new.shelf ≤ g.S.Shelf.given c.args.shelf.now + n)
-    (map string_bytes c.args.words.now) codec wav name periods period plays can
+    (map string_bytes c.args.words.now) Analog codec wav name periods period plays can
+    (inl (record { meant = answer_meant c.in-Ok.answer; is = c.in-Ok.ensures.meant; given = c.write_answer.ensures.play; written = c.write_answer.ensures.written }))
+
+pub returns-in-Ok-clause-spdif_given : goal.returns-in-Ok-clause-spdif_given
+returns-in-Ok-clause-spdif_given g c = λ codec wav name periods period plays can enough. sound_given (g.K.Sink.taken c.args.out.now) (g.K.Sink.taken c.write_answer.new.out)
+    (Rose (g.K.Sink.faults c.args.out.now) (g.K.Sink.faults c.write_answer.new.out)) c.write_answer.result.play c.write_answer.result.status enough
+    (g.S.Shelf.told c.args.shelf.now) (λ name. Rose (g.S.Shelf.faults c.args.shelf.now name) (g.S.Shelf.faults c.answer_words.new.shelf name))
+    (λ name. Rose (g.S.Shelf.empties c.args.shelf.now name) (g.S.Shelf.empties c.answer_words.new.shelf name)) (λ name. g.S.Shelf.asked c.answer_words.new.shelf name ≡ g.S.Shelf.asked c.args.shelf.now name) (λ n. g.S.Shelf.given c.answer_words.new.shelf ≤ g.S.Shelf.given c.args.shelf.now + n)
+    (map string_bytes c.args.words.now) Digital codec wav name periods period plays can
     (inl (record { meant = answer_meant c.in-Ok.answer; is = c.in-Ok.ensures.meant; given = c.write_answer.ensures.play; written = c.write_answer.ensures.written }))
 
 pub returns-in-Ok-clause-walk_served : goal.returns-in-Ok-clause-walk_served
@@ -183,21 +207,39 @@ returns-in-Ok-clause-walk_served g c = λ codec name walks can sink serves. walk
     (inl (record { meant = answer_meant c.in-Ok.answer; is = c.in-Ok.ensures.meant; given = c.write_answer.ensures.play; written = c.write_answer.ensures.written })) serves
 
 pub returns-in-Ok-clause-play_served : goal.returns-in-Ok-clause-play_served
-returns-in-Ok-clause-play_served g c = λ codec wav name periods period geometry plays can sink shape serves. play_serves (g.K.Sink.taken c.args.out.now) (g.K.Sink.taken c.write_answer.new.out)
+returns-in-Ok-clause-play_served g c = λ codec wav name periods period geometry plays can sink shape serves. sound_serves (g.K.Sink.taken c.args.out.now) (g.K.Sink.taken c.write_answer.new.out)
     (Rose (g.K.Sink.faults c.args.out.now) (g.K.Sink.faults c.write_answer.new.out)) c.write_answer.result.play c.write_answer.result.status sink
     (g.S.Shelf.told c.args.shelf.now) (λ name. Rose (g.S.Shelf.faults c.args.shelf.now name) (g.S.Shelf.faults c.answer_words.new.shelf name))
     (λ name. Rose (g.S.Shelf.empties c.args.shelf.now name) (g.S.Shelf.empties c.answer_words.new.shelf name)) (λ name. g.S.Shelf.asked c.answer_words.new.shelf name ≡ g.S.Shelf.asked c.args.shelf.now name) (λ n. g.S.Shelf.given c.answer_words.new.shelf ≤ g.S.Shelf.given c.args.shelf.now + n)
-    (λ machine plans wav geometry schedule played sound read. c.plays_end_so.ensures machine plans wav geometry schedule played sound (c.read_machines_are_whole.ensures machine sound read))
-    (λ machine plans wav geometry schedule played frames sound read. c.plays_all_so.ensures machine plans wav geometry schedule played frames sound (c.read_machines_are_whole.ensures machine sound read)) codec wav name periods period geometry can shape serves (map string_bytes c.args.words.now) plays
+    Analog (λ kind machine plans wav geometry schedule played sound read. c.plays_end_so.ensures kind machine plans wav geometry schedule played sound (c.read_machines_are_whole.ensures machine sound read))
+    (λ kind machine plans wav geometry schedule played frames sound read. c.plays_all_so.ensures kind machine plans wav geometry schedule played frames sound (c.read_machines_are_whole.ensures machine sound read)) codec wav name periods period geometry can shape serves (map string_bytes c.args.words.now) plays
+    (inl (record { meant = answer_meant c.in-Ok.answer; is = c.in-Ok.ensures.meant; given = c.write_answer.ensures.play; written = c.write_answer.ensures.written }))
+
+pub returns-in-Ok-clause-spdif_served : goal.returns-in-Ok-clause-spdif_served
+returns-in-Ok-clause-spdif_served g c = λ codec wav name periods period geometry plays can sink shape serves. sound_serves (g.K.Sink.taken c.args.out.now) (g.K.Sink.taken c.write_answer.new.out)
+    (Rose (g.K.Sink.faults c.args.out.now) (g.K.Sink.faults c.write_answer.new.out)) c.write_answer.result.play c.write_answer.result.status sink
+    (g.S.Shelf.told c.args.shelf.now) (λ name. Rose (g.S.Shelf.faults c.args.shelf.now name) (g.S.Shelf.faults c.answer_words.new.shelf name))
+    (λ name. Rose (g.S.Shelf.empties c.args.shelf.now name) (g.S.Shelf.empties c.answer_words.new.shelf name)) (λ name. g.S.Shelf.asked c.answer_words.new.shelf name ≡ g.S.Shelf.asked c.args.shelf.now name) (λ n. g.S.Shelf.given c.answer_words.new.shelf ≤ g.S.Shelf.given c.args.shelf.now + n)
+    Digital (λ kind machine plans wav geometry schedule played sound read. c.plays_end_so.ensures kind machine plans wav geometry schedule played sound (c.read_machines_are_whole.ensures machine sound read))
+    (λ kind machine plans wav geometry schedule played frames sound read. c.plays_all_so.ensures kind machine plans wav geometry schedule played frames sound (c.read_machines_are_whole.ensures machine sound read)) codec wav name periods period geometry can shape serves (map string_bytes c.args.words.now) plays
     (inl (record { meant = answer_meant c.in-Ok.answer; is = c.in-Ok.ensures.meant; given = c.write_answer.ensures.play; written = c.write_answer.ensures.written }))
 
 pub returns-in-Ok-clause-play_served_whole : goal.returns-in-Ok-clause-play_served_whole
-returns-in-Ok-clause-play_served_whole g c = λ codec wav name periods period geometry plays can sink shape serves. play_serves_whole (g.K.Sink.taken c.args.out.now) (g.K.Sink.taken c.write_answer.new.out)
+returns-in-Ok-clause-play_served_whole g c = λ codec wav name periods period geometry plays can sink shape serves. sound_serves_whole (g.K.Sink.taken c.args.out.now) (g.K.Sink.taken c.write_answer.new.out)
     (Rose (g.K.Sink.faults c.args.out.now) (g.K.Sink.faults c.write_answer.new.out)) c.write_answer.result.play c.write_answer.result.status sink
     (g.S.Shelf.told c.args.shelf.now) (λ name. Rose (g.S.Shelf.faults c.args.shelf.now name) (g.S.Shelf.faults c.answer_words.new.shelf name))
     (λ name. Rose (g.S.Shelf.empties c.args.shelf.now name) (g.S.Shelf.empties c.answer_words.new.shelf name)) (λ name. g.S.Shelf.asked c.answer_words.new.shelf name ≡ g.S.Shelf.asked c.args.shelf.now name) (λ n. g.S.Shelf.given c.answer_words.new.shelf ≤ g.S.Shelf.given c.args.shelf.now + n)
-    (λ machine plans wav geometry schedule played sound read. c.plays_end_so.ensures machine plans wav geometry schedule played sound (c.read_machines_are_whole.ensures machine sound read))
-    (λ machine plans wav geometry schedule played frames sound read. c.plays_all_so.ensures machine plans wav geometry schedule played frames sound (c.read_machines_are_whole.ensures machine sound read)) codec wav name periods period geometry can shape serves (map string_bytes c.args.words.now) plays
+    Analog (λ kind machine plans wav geometry schedule played sound read. c.plays_end_so.ensures kind machine plans wav geometry schedule played sound (c.read_machines_are_whole.ensures machine sound read))
+    (λ kind machine plans wav geometry schedule played frames sound read. c.plays_all_so.ensures kind machine plans wav geometry schedule played frames sound (c.read_machines_are_whole.ensures machine sound read)) codec wav name periods period geometry can shape serves (map string_bytes c.args.words.now) plays
+    (inl (record { meant = answer_meant c.in-Ok.answer; is = c.in-Ok.ensures.meant; given = c.write_answer.ensures.play; written = c.write_answer.ensures.written }))
+
+pub returns-in-Ok-clause-spdif_served_whole : goal.returns-in-Ok-clause-spdif_served_whole
+returns-in-Ok-clause-spdif_served_whole g c = λ codec wav name periods period geometry plays can sink shape serves. sound_serves_whole (g.K.Sink.taken c.args.out.now) (g.K.Sink.taken c.write_answer.new.out)
+    (Rose (g.K.Sink.faults c.args.out.now) (g.K.Sink.faults c.write_answer.new.out)) c.write_answer.result.play c.write_answer.result.status sink
+    (g.S.Shelf.told c.args.shelf.now) (λ name. Rose (g.S.Shelf.faults c.args.shelf.now name) (g.S.Shelf.faults c.answer_words.new.shelf name))
+    (λ name. Rose (g.S.Shelf.empties c.args.shelf.now name) (g.S.Shelf.empties c.answer_words.new.shelf name)) (λ name. g.S.Shelf.asked c.answer_words.new.shelf name ≡ g.S.Shelf.asked c.args.shelf.now name) (λ n. g.S.Shelf.given c.answer_words.new.shelf ≤ g.S.Shelf.given c.args.shelf.now + n)
+    Digital (λ kind machine plans wav geometry schedule played sound read. c.plays_end_so.ensures kind machine plans wav geometry schedule played sound (c.read_machines_are_whole.ensures machine sound read))
+    (λ kind machine plans wav geometry schedule played frames sound read. c.plays_all_so.ensures kind machine plans wav geometry schedule played frames sound (c.read_machines_are_whole.ensures machine sound read)) codec wav name periods period geometry can shape serves (map string_bytes c.args.words.now) plays
     (inl (record { meant = answer_meant c.in-Ok.answer; is = c.in-Ok.ensures.meant; given = c.write_answer.ensures.play; written = c.write_answer.ensures.written }))
 
 pub returns-in-Err-clause-walk_served : goal.returns-in-Err-clause-walk_served
@@ -206,8 +248,14 @@ returns-in-Err-clause-walk_served g c = λ codec name walks can sink serves. rec
 pub returns-in-Err-clause-play_served : goal.returns-in-Err-clause-play_served
 returns-in-Err-clause-play_served g c = λ codec wav name periods period geometry plays can sink shape serves. record { run = tt; status_is = inr c.number.ensures }
 
+pub returns-in-Err-clause-spdif_served : goal.returns-in-Err-clause-spdif_served
+returns-in-Err-clause-spdif_served g c = λ codec wav name periods period geometry plays can sink shape serves. record { run = tt; status_is = inr c.number.ensures }
+
 pub returns-in-Err-clause-play_served_whole : goal.returns-in-Err-clause-play_served_whole
 returns-in-Err-clause-play_served_whole g c = λ codec wav name periods period geometry plays can sink shape serves. record { run = tt; status_is = inr c.number.ensures }
+
+pub returns-in-Err-clause-spdif_served_whole : goal.returns-in-Err-clause-spdif_served_whole
+returns-in-Err-clause-spdif_served_whole g c = λ codec wav name periods period geometry plays can sink shape serves. record { run = tt; status_is = inr c.number.ensures }
 
 pub returns-in-Ok-clause-make_runs : goal.returns-in-Ok-clause-make_runs
 returns-in-Ok-clause-make_runs g c = λ number makes. make_runs (g.K.Sink.taken c.args.out.now) (g.K.Sink.taken c.write_answer.new.out)
@@ -236,3 +284,6 @@ returns-in-Err-clause-walk_given g c = λ codec name walks can enough. absurd (e
 
 pub returns-in-Err-clause-play_given : goal.returns-in-Err-clause-play_given
 returns-in-Err-clause-play_given g c = λ codec wav name periods period plays can enough. absurd (enough c.number.ensures)
+
+pub returns-in-Err-clause-spdif_given : goal.returns-in-Err-clause-spdif_given
+returns-in-Err-clause-spdif_given g c = λ codec wav name periods period plays can enough. absurd (enough c.number.ensures)

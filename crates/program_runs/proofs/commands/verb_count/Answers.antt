@@ -4,12 +4,12 @@ use Rattle.program_runs.proofs.commands.verb_count.Goals as goal
 
 pub overflow_cast-result : goal.overflow_cast-result
 overflow_cast-result c =
-    let few = few_setup c.args.graph.now c.args.plan.now c.args.format 1 c.raw-raw.ensures.well_formed in
+    let few = few_setup c.args.kind c.args.graph.now c.args.plan.now c.args.format 1 c.raw-raw.ensures.well_formed in
     let all = ap length c.in_ok-verbs.ensures.list in
     omega (arith, few, all, c.len.ensures)
 
 pub returns-clause-few : goal.returns-clause-few
 returns-clause-few c =
-    let few = few_setup c.args.graph.now c.args.plan.now c.args.format 1 c.raw-raw.ensures.well_formed in
+    let few = few_setup c.args.kind c.args.graph.now c.args.plan.now c.args.format 1 c.raw-raw.ensures.well_formed in
     let all = ap length c.in_ok-verbs.ensures.list in
     omega (arith, few, all, c.len.ensures)

@@ -1,6 +1,7 @@
 use Rattle.std.proofs.Common.{◌≡◌, ◌∙◌, ap, Some}
 use Rattle.hda_outside.specs.Counts.{Rose}
 use Rattle.hda_outside.specs.MemoryShelf.{SteadyShelf, fault_count}
+use Rattle.route_planner.specs.declared.pin_kind.PinKind.TheVariants.{Analog}
 use Rattle.sound_report.specs.declared.played.Played.{Played}
 use Rattle.program_runs.specs.Plays.{IsCutUnder, IsPlayedFrom}
 use Rattle.program_runs.specs.MadeRuns.{IsMadeRun}
@@ -24,7 +25,7 @@ returns c =
     let files_are : shelf.files ≡ made_files c.args.number = c.in_ok-head.ensures.kept ∙ ap (λ (one : SteadyShelf). one.files) c.in_ok-shelf.ensures in
     let failed = Rose (fault_count shelf.files 0 shelf.missing sound_name) (fault_count c.play.new.shelf.files 0 c.play.new.shelf.missing sound_name) in
     let emptied = Rose shelf.empties c.play.new.shelf.empties in
-    if_both (IsPlayedFrom (Some shelf.files) sound_name head c.args.machine c.args.plans.items c.in-Ok.geometry c.in_ok-schedule.schedule)
+    if_both (IsPlayedFrom Analog (Some shelf.files) sound_name head c.args.machine c.args.plans.items c.in-Ok.geometry c.in_ok-schedule.schedule)
     (λ (played : Played). IsCutUnder sound_name head played.read failed emptied played.cut) (IsMadeRun c.args.number) c.play.result
     c.play.ensures.played c.play.ensures.cut
     (λ played from cut.

@@ -13,18 +13,20 @@ use Rattle.driver_bring_up.specs.Jacks.{Counts}
 use Rattle.period_writer.specs.Runs.{measures}
 use Rattle.rig.specs.Follows.{Follows}
 use Rattle.route_planner.specs.declared.pin_kind.PinKind.{PinKind}
-use Rattle.route_planner.specs.declared.pin_kind.PinKind.TheVariants.{Analog}
 use Rattle.rig.specs.Rigs.{setting_of, telling_of}
 use Rattle.rig.specs.Replays.{AreHeardInAs, start_of, telling_from}
 use Rattle.heard_lists.specs.Listings.{AreListsAs, graphs_in, handed_out}
-use Rattle.laws_start.specs.Tasks.{commands_of, blocks_of}
+use Rattle.laws_start.specs.Tasks.{blocks_of}
 use Rattle.program_runs.specs.Events.{told_in}
 use Rattle.program_runs.specs.Feeding.{Shelves, Streams, shelves_of}
 use Rattle.program_runs.specs.FrameCounts.{written_by}
 use Rattle.program_runs.specs.Reading.{frames_read}
 use Rattle.program_runs.specs.Going.{parts_with}
 use Rattle.program_runs.specs.Hearing.{lists_heard}
-use Rattle.program_runs.specs.Plays.{play_fault, played_task, sound_with}
+use Rattle.digital_out.specs.declared.outputs.Outputs.{Outputs}
+use Rattle.digital_out.specs.Means.{outputs}
+use Rattle.program_runs.specs.Outputs.{HavePlansOf, commands_as}
+use Rattle.program_runs.specs.Plays.{IsPlayedFrom, play_fault, sound_with}
 use Rattle.program_runs.proofs.Counting.{few_lines}
 use Rattle.program_runs.proofs.FedRings.{first_supply, ring_whole}
 use Rattle.program_runs.proofs.Gone.{opened_can_go}
@@ -80,8 +82,20 @@ frames_read-read-requires g c =
     let some = some_bytes c.args.head.format in
     omega (arith, some, c.block_bytes.ensures)
 
--- how the driver was opened, at the two places where it is asked for
-can_before : (g : Over) (c : After-block_bytes-2 g) → CanPlayFrom c.args.machine c.args.plans.items c.args.head c.args.name.now c.args.geometry c.args.schedule.now c.in_ok-driver.driver.bring_up c.in_ok-driver.driver.writer c.in_ok-driver.driver.supply c.in_ok-driver.driver.play c.in_ok-rig.rig
+-- how the driver was opened, at the two places where it is asked for: it sets pins of the kind up that is asked for, and the plans are those of its pins
+kind_before : (g : Over) (c : After-block_bytes-2 g) → c.in_ok-driver.driver.setter.kind ≡ c.args.kind
+kind_before g c = ap (λ (setter : Outputs). setter.kind) c.in_ok-driver.ensures.setter
+
+kind_after : (g : Over) (c : After-drop-closed-3 g) → c.in_ok-driver.driver.setter.kind ≡ c.args.kind
+kind_after g c = ap (λ (setter : Outputs). setter.kind) c.in_ok-driver.ensures.setter
+
+planned_before : (g : Over) (c : After-block_bytes-2 g) → HavePlansOf c.in_ok-driver.driver.setter.kind c.args.head.format c.args.machine.codecs c.args.plans.items
+planned_before g c = subst (λ (kind : PinKind). HavePlansOf kind c.args.head.format c.args.machine.codecs c.args.plans.items) (sym (kind_before g c)) c.requires.plans
+
+planned_after : (g : Over) (c : After-drop-closed-3 g) → HavePlansOf c.in_ok-driver.driver.setter.kind c.args.head.format c.args.machine.codecs c.args.plans.items
+planned_after g c = subst (λ (kind : PinKind). HavePlansOf kind c.args.head.format c.args.machine.codecs c.args.plans.items) (sym (kind_after g c)) c.requires.plans
+
+can_before : (g : Over) (c : After-block_bytes-2 g) → CanPlayFrom c.in_ok-driver.driver.setter.kind c.args.machine c.args.plans.items c.args.head c.args.name.now c.args.geometry c.args.schedule.now c.in_ok-driver.driver.bring_up c.in_ok-driver.driver.writer c.in_ok-driver.driver.supply c.in_ok-driver.driver.play c.in_ok-rig.rig
 can_before g c = record {
   keeps = λ format verbs graphs task is. c.drivers_keep_to_progress.ensures c.in_ok-driver.driver.setter format verbs graphs task is;
   plays = c.in_ok-driver.ensures.play;
@@ -93,16 +107,16 @@ can_before g c = record {
   limited = c.requires.limits;
   start = c.in_ok-rig.ensures.told;
   can_go = λ pcm.
-      opened_can_go c.args.machine c.args.head.format c.args.plans.items c.args.geometry _ c.in_ok-driver.driver.play true pcm c.in_ok-driver.driver.bring_up
+      opened_can_go (outputs c.in_ok-driver.driver.setter.kind) c.args.machine c.args.head.format c.args.plans.items c.args.geometry _ c.in_ok-driver.driver.play true pcm c.in_ok-driver.driver.bring_up
       c.in_ok-driver.driver.writer pcm c.in_ok-driver.ensures.play (λ plays. refl) c.in_ok-driver.ensures.opened c.in_ok-driver.ensures.apart c.requires.fifo c.requires.format
       (c.machines_have_tasks.ensures c.in_ok-driver.driver.setter c.args.head.format c.args.machine c.args.plans.items c.args.geometry true pcm (blocks_of c.in_ok-driver.driver.bring_up c.in_ok-driver.driver.writer)
-      c.requires.sound c.requires.whole c.requires.plans c.requires.routed)
+      c.requires.sound c.requires.whole (planned_before g c) c.requires.routed)
       (c.opened_drivers_can_begin.ensures c.in_ok-driver.driver.setter c.args.head.format c.args.machine c.args.plans.items c.args.geometry true pcm _ c.in_ok-driver.driver.bring_up c.in_ok-driver.driver.writer
       c.requires.sound c.requires.whole c.in_ok-driver.ensures.opened)
       (c.machines_rest.ensures c.args.machine);
 }
 
-can_after : (g : Over) (c : After-drop-closed-3 g) → CanPlayFrom c.args.machine c.args.plans.items c.args.head c.args.name.now c.args.geometry c.args.schedule.now c.in_ok-driver.driver.bring_up c.in_ok-driver.driver.writer c.in_ok-driver.driver.supply c.in_ok-driver.driver.play c.in_ok-rig.rig
+can_after : (g : Over) (c : After-drop-closed-3 g) → CanPlayFrom c.in_ok-driver.driver.setter.kind c.args.machine c.args.plans.items c.args.head c.args.name.now c.args.geometry c.args.schedule.now c.in_ok-driver.driver.bring_up c.in_ok-driver.driver.writer c.in_ok-driver.driver.supply c.in_ok-driver.driver.play c.in_ok-rig.rig
 can_after g c = record {
   keeps = λ format verbs graphs task is. c.drivers_keep_to_progress.ensures c.in_ok-driver.driver.setter format verbs graphs task is;
   plays = c.in_ok-driver.ensures.play;
@@ -114,10 +128,10 @@ can_after g c = record {
   limited = c.requires.limits;
   start = c.in_ok-rig.ensures.told;
   can_go = λ pcm.
-      opened_can_go c.args.machine c.args.head.format c.args.plans.items c.args.geometry _ c.in_ok-driver.driver.play true pcm c.in_ok-driver.driver.bring_up
+      opened_can_go (outputs c.in_ok-driver.driver.setter.kind) c.args.machine c.args.head.format c.args.plans.items c.args.geometry _ c.in_ok-driver.driver.play true pcm c.in_ok-driver.driver.bring_up
       c.in_ok-driver.driver.writer pcm c.in_ok-driver.ensures.play (λ plays. refl) c.in_ok-driver.ensures.opened c.in_ok-driver.ensures.apart c.requires.fifo c.requires.format
       (c.machines_have_tasks.ensures c.in_ok-driver.driver.setter c.args.head.format c.args.machine c.args.plans.items c.args.geometry true pcm (blocks_of c.in_ok-driver.driver.bring_up c.in_ok-driver.driver.writer)
-      c.requires.sound c.requires.whole c.requires.plans c.requires.routed)
+      c.requires.sound c.requires.whole (planned_after g c) c.requires.routed)
       (c.opened_drivers_can_begin.ensures c.in_ok-driver.driver.setter c.args.head.format c.args.machine c.args.plans.items c.args.geometry true pcm _ c.in_ok-driver.driver.bring_up c.in_ok-driver.driver.writer
       c.requires.sound c.requires.whole c.in_ok-driver.ensures.opened)
       (c.machines_rest.ensures c.args.machine);
@@ -125,12 +139,12 @@ can_after g c = record {
 
 pub play_fault-fault-requires-clause-can_end : goal.play_fault-fault-requires-clause-can_end
 play_fault-fault-requires-clause-can_end g c =
-    end_is c.args.machine c.args.plans.items c.args.head c.args.name.now c.args.geometry c.args.schedule.now c.in_ok-driver.driver.bring_up c.in_ok-driver.driver.writer c.in_ok-driver.driver.supply
+    end_is c.in_ok-driver.driver.setter.kind c.args.machine c.args.plans.items c.args.head c.args.name.now c.args.geometry c.args.schedule.now c.in_ok-driver.driver.bring_up c.in_ok-driver.driver.writer c.in_ok-driver.driver.supply
     c.in_ok-driver.driver.play c.in_ok-rig.rig c.drive.new.rig (shelves_of (g.S.Shelf.told c.args.shelf.now) (g.S.Shelf.faults c.args.shelf.now) (g.S.Shelf.empties c.args.shelf.now) (g.S.Shelf.given c.args.shelf.now)) (shelves_of (g.S.Shelf.told c.drive.new.shelf) (g.S.Shelf.faults c.drive.new.shelf) (g.S.Shelf.empties c.drive.new.shelf) (g.S.Shelf.given c.drive.new.shelf)) c.drive.new.cut c.in_ok-driven.driven.closed c.in_ok-driven.driven.read (can_before g c) c.in_ok-driven.ensures.driven
 
 pub play_fault-fault-requires-clause-few : goal.play_fault-fault-requires-clause-few
 play_fault-fault-requires-clause-few g c =
-    few c.args.machine c.args.plans.items c.args.head c.args.name.now c.args.geometry c.args.schedule.now c.in_ok-driver.driver.bring_up c.in_ok-driver.driver.writer c.in_ok-driver.driver.supply
+    few c.in_ok-driver.driver.setter.kind c.args.machine c.args.plans.items c.args.head c.args.name.now c.args.geometry c.args.schedule.now c.in_ok-driver.driver.bring_up c.in_ok-driver.driver.writer c.in_ok-driver.driver.supply
     c.in_ok-driver.driver.play c.in_ok-rig.rig c.drive.new.rig (shelves_of (g.S.Shelf.told c.args.shelf.now) (g.S.Shelf.faults c.args.shelf.now) (g.S.Shelf.empties c.args.shelf.now) (g.S.Shelf.given c.args.shelf.now)) (shelves_of (g.S.Shelf.told c.drive.new.shelf) (g.S.Shelf.faults c.drive.new.shelf) (g.S.Shelf.empties c.drive.new.shelf) (g.S.Shelf.given c.drive.new.shelf)) c.drive.new.cut c.in_ok-driven.driven.closed c.in_ok-driven.driven.read (can_before g c) c.in_ok-driven.ensures.driven
 
 -- the reading was never cut for want of memory
@@ -152,28 +166,28 @@ module _ (g : Over) (c : After-drop-closed-3 g) where
   now = shelves_of (g.S.Shelf.told c.drive.new.shelf) (g.S.Shelf.faults c.drive.new.shelf) (g.S.Shelf.empties c.drive.new.shelf) (g.S.Shelf.given c.drive.new.shelf)
 
   abbrev sound_of : List ℕ
-  sound_of = sound c.args.machine c.args.plans.items c.args.head c.args.name.now c.args.geometry c.args.schedule.now c.in_ok-driver.driver.bring_up c.in_ok-driver.driver.writer c.in_ok-driver.driver.supply
+  sound_of = sound c.in_ok-driver.driver.setter.kind c.args.machine c.args.plans.items c.args.head c.args.name.now c.args.geometry c.args.schedule.now c.in_ok-driver.driver.bring_up c.in_ok-driver.driver.writer c.in_ok-driver.driver.supply
       c.in_ok-driver.driver.play c.in_ok-rig.rig c.drive.new.rig (shelves_of (g.S.Shelf.told c.args.shelf.now) (g.S.Shelf.faults c.args.shelf.now) (g.S.Shelf.empties c.args.shelf.now) (g.S.Shelf.given c.args.shelf.now)) (shelves_of (g.S.Shelf.told c.drive.new.shelf) (g.S.Shelf.faults c.drive.new.shelf) (g.S.Shelf.empties c.drive.new.shelf) (g.S.Shelf.given c.drive.new.shelf)) c.drive.new.cut c.in_ok-driven.driven.closed c.in_ok-driven.driven.read (can_after g c) c.in_ok-driven.ensures.driven
 
   streamed : Streams (measures c.args.geometry) (source_for c.args.name.now c.args.head (measures c.args.geometry).ring) (first c.args.name.now) (now c.args.name.now) c.drive.new.cut
       c.in_ok-driven.ensures.driven.last c.in_ok-driven.ensures.driven.course
-  streamed = streams c.args.machine c.args.plans.items c.args.head c.args.name.now c.args.geometry c.args.schedule.now c.in_ok-driver.driver.bring_up c.in_ok-driver.driver.writer c.in_ok-driver.driver.supply
+  streamed = streams c.in_ok-driver.driver.setter.kind c.args.machine c.args.plans.items c.args.head c.args.name.now c.args.geometry c.args.schedule.now c.in_ok-driver.driver.bring_up c.in_ok-driver.driver.writer c.in_ok-driver.driver.supply
       c.in_ok-driver.driver.play c.in_ok-rig.rig c.drive.new.rig (shelves_of (g.S.Shelf.told c.args.shelf.now) (g.S.Shelf.faults c.args.shelf.now) (g.S.Shelf.empties c.args.shelf.now) (g.S.Shelf.given c.args.shelf.now)) (shelves_of (g.S.Shelf.told c.drive.new.shelf) (g.S.Shelf.faults c.drive.new.shelf) (g.S.Shelf.empties c.drive.new.shelf) (g.S.Shelf.given c.drive.new.shelf)) c.drive.new.cut c.in_ok-driven.driven.closed c.in_ok-driven.driven.read (can_after g c) c.in_ok-driven.ensures.driven
 
   block_there : block_bytes c.args.head.format ≡ (measures c.args.geometry).block
   block_there = ap block_bytes (sym c.requires.format)
 
   block_some : 1 ≤ (measures c.args.geometry).block
-  block_some = some_block c.args.machine c.args.plans.items c.args.head c.args.name.now c.args.geometry c.args.schedule.now c.in_ok-driver.driver.bring_up c.in_ok-driver.driver.writer c.in_ok-driver.driver.supply
+  block_some = some_block c.in_ok-driver.driver.setter.kind c.args.machine c.args.plans.items c.args.head c.args.name.now c.args.geometry c.args.schedule.now c.in_ok-driver.driver.bring_up c.in_ok-driver.driver.writer c.in_ok-driver.driver.supply
       c.in_ok-driver.driver.play c.in_ok-rig.rig c.drive.new.rig (shelves_of (g.S.Shelf.told c.args.shelf.now) (g.S.Shelf.faults c.args.shelf.now) (g.S.Shelf.empties c.args.shelf.now) (g.S.Shelf.given c.args.shelf.now)) (shelves_of (g.S.Shelf.told c.drive.new.shelf) (g.S.Shelf.faults c.drive.new.shelf) (g.S.Shelf.empties c.drive.new.shelf) (g.S.Shelf.given c.drive.new.shelf)) c.drive.new.cut c.in_ok-driven.driven.closed c.in_ok-driven.driven.read (can_after g c) c.in_ok-driven.ensures.driven
 
   -- the machine at the end
   machine_there : (setting_of c.drive.new.rig).machine ≡ c.args.machine
   machine_there = c.in_ok-driven.ensures.machine ∙ c.in_ok-rig.ensures.machine
 
-  -- and its lists are those of analog pins
-  kind_there : (setting_of c.drive.new.rig).kind ≡ Analog
-  kind_there = c.in_ok-driven.ensures.kind ∙ c.in_ok-rig.ensures.kind
+  -- and its lists are those of the pins that the driver set up
+  kind_there : (setting_of c.drive.new.rig).kind ≡ c.in_ok-driver.driver.setter.kind
+  kind_there = c.in_ok-driven.ensures.kind ∙ (c.in_ok-rig.ensures.kind ∙ sym (kind_after g c))
 
   -- so many frames were read
   read_counted : c.frames_read-read.result ≡ frames_read c.drive.new.cut (c.in_ok-driven.ensures.driven.last.taken + length c.in_ok-driven.ensures.driven.last.held) (measures c.args.geometry).block c.args.head.frames
@@ -203,7 +217,7 @@ returns-clause-frames g c =
 pub returns-clause-given : goal.returns-clause-given
 returns-clause-given g c =
     let driven = c.in_ok-driven.ensures.driven in
-    let written = used c.args.machine c.args.plans.items c.args.head c.args.name.now c.args.geometry c.args.schedule.now c.in_ok-driver.driver.bring_up c.in_ok-driver.driver.writer c.in_ok-driver.driver.supply
+    let written = used c.in_ok-driver.driver.setter.kind c.args.machine c.args.plans.items c.args.head c.args.name.now c.args.geometry c.args.schedule.now c.in_ok-driver.driver.bring_up c.in_ok-driver.driver.writer c.in_ok-driver.driver.supply
     c.in_ok-driver.driver.play c.in_ok-rig.rig c.drive.new.rig (shelves_of (g.S.Shelf.told c.args.shelf.now) (g.S.Shelf.faults c.args.shelf.now) (g.S.Shelf.empties c.args.shelf.now) (g.S.Shelf.given c.args.shelf.now)) (shelves_of (g.S.Shelf.told c.drive.new.shelf) (g.S.Shelf.faults c.drive.new.shelf) (g.S.Shelf.empties c.drive.new.shelf) (g.S.Shelf.given c.drive.new.shelf)) c.drive.new.cut c.in_ok-driven.driven.closed c.in_ok-driven.driven.read (can_after g c) c.in_ok-driven.ensures.driven in
     given_most c.args.name.now c.args.head (measures c.args.geometry) driven.gave (first g c) (now g c) c.drive.new.cut c.in_ok-driver.driver.supply driven.last driven.course driven.took (can_after g c).supply_is (block_some g c) (streamed g c)
     (written_by c.from_vec-3.result) (subst (λ runs. driven.course.used ≤ written_by runs) (sym c.from_vec-3.ensures) written)
@@ -211,14 +225,14 @@ returns-clause-given g c =
 pub returns-clause-played : goal.returns-clause-played
 returns-clause-played g c =
     let driver = c.in_ok-driver.driver in
+    let kind = driver.setter.kind in
     let machine = c.args.machine in
     let head = c.args.head in
     let wav = sound_with c.args.head (sound_of g c) in
     let blocks = blocks_of driver.bring_up driver.writer in
     let opened = parts_with driver.bring_up driver.writer (sound_of g c) in
-    let task = played_task c.args.machine c.args.plans.items wav c.args.geometry blocks in
     let closed = c.in_ok-driven.driven.closed in
-    let was = over c.args.machine c.args.plans.items c.args.head c.args.name.now c.args.geometry c.args.schedule.now c.in_ok-driver.driver.bring_up c.in_ok-driver.driver.writer c.in_ok-driver.driver.supply c.in_ok-driver.driver.play c.in_ok-rig.rig c.drive.new.rig (shelves_of (g.S.Shelf.told c.args.shelf.now) (g.S.Shelf.faults c.args.shelf.now) (g.S.Shelf.empties c.args.shelf.now) (g.S.Shelf.given c.args.shelf.now)) (shelves_of (g.S.Shelf.told c.drive.new.shelf) (g.S.Shelf.faults c.drive.new.shelf) (g.S.Shelf.empties c.drive.new.shelf) (g.S.Shelf.given c.drive.new.shelf)) c.drive.new.cut c.in_ok-driven.driven.closed c.in_ok-driven.driven.read (can_after g c) c.in_ok-driven.ensures.driven in
+    let was = over c.in_ok-driver.driver.setter.kind c.args.machine c.args.plans.items c.args.head c.args.name.now c.args.geometry c.args.schedule.now c.in_ok-driver.driver.bring_up c.in_ok-driver.driver.writer c.in_ok-driver.driver.supply c.in_ok-driver.driver.play c.in_ok-rig.rig c.drive.new.rig (shelves_of (g.S.Shelf.told c.args.shelf.now) (g.S.Shelf.faults c.args.shelf.now) (g.S.Shelf.empties c.args.shelf.now) (g.S.Shelf.given c.args.shelf.now)) (shelves_of (g.S.Shelf.told c.drive.new.shelf) (g.S.Shelf.faults c.drive.new.shelf) (g.S.Shelf.empties c.drive.new.shelf) (g.S.Shelf.given c.drive.new.shelf)) c.drive.new.cut c.in_ok-driven.driven.closed c.in_ok-driven.driven.read (can_after g c) c.in_ok-driven.ensures.driven in
     let told = c.parts-machine.ensures.journal in
     let driven_so = c.in_ok-driven.ensures.driven in
     let played : Played = record {
@@ -247,20 +261,20 @@ returns-clause-played g c =
       line_late = c.runs_write_the_line.ensures.late;
     } in
     let journal = (telling_of c.drive.new.rig).journal in
-    let heard : map handed_out c.parts-machine.result.1 ≡ lists_heard (world_of (telling_from REGION_BYTES machine journal)).carried machine.codecs c.args.plans.items =
-    lists_are c.one_order.ensures head.format machine.codecs c.args.plans.items (world_of (telling_from REGION_BYTES machine journal)) c.parts-machine.result.1
+    let heard : map handed_out c.parts-machine.result.1 ≡ lists_heard kind (world_of (telling_from REGION_BYTES machine journal)).carried machine.codecs c.args.plans.items =
+    lists_are c.one_order_of_each_kind.ensures kind head.format machine.codecs c.args.plans.items (world_of (telling_from REGION_BYTES machine journal)) c.parts-machine.result.1
     (subst (λ (kind : PinKind). AreHeardInAs kind (world_of (telling_from REGION_BYTES machine journal)) c.parts-machine.result.1) (kind_there g c)
     (subst (λ (machine : Machine). AreHeardInAs (setting_of c.drive.new.rig).kind (world_of (telling_from REGION_BYTES machine journal)) c.parts-machine.result.1) (machine_there g c)
     c.parts-machine.ensures.heard))
     (subst (λ (kind : PinKind). ∥ AreListsAs kind (graphs_in machine.codecs) c.parts-machine.result.1 ∥₁) (kind_there g c)
     (subst (λ (machine : Machine). ∥ AreListsAs (setting_of c.drive.new.rig).kind (graphs_in machine.codecs) c.parts-machine.result.1 ∥₁) (machine_there g c) c.parts-machine.ensures.pins))
-    c.requires.plans in
-    let by = driven machine c.args.plans.items wav c.args.geometry blocks c.args.schedule.now opened closed journal was
-    laws played told (sym (can_after g c).ring_is) c.requires.format c.requires.plans c.from_vec-2.ensures c.from_vec-3.ensures c.from_vec-4.ensures
+    (planned_after g c) in
+    let by = driven kind machine c.args.plans.items wav c.args.geometry blocks c.args.schedule.now opened closed journal was
+    laws played told (sym (can_after g c).ring_is) c.requires.format (planned_after g c) c.from_vec-2.ensures c.from_vec-3.ensures c.from_vec-4.ensures
     (c.into_lists.ensures ∙ heard)
     (c.play_fault-fault.ensures
     ∙ ap (λ (block : ℕ). play_fault closed.phase closed.sent c.in_ok-commands.commands block head.frames closed.runs.items closed.silences.items) c.block_bytes-2.ensures) in
-    record {
+    let from : IsPlayedFrom kind (g.S.Shelf.told c.args.shelf.now) c.args.name.now head machine c.args.plans.items c.args.geometry c.args.schedule.now played = record {
       pcm = sound_of g c;
       sound = sound_is_read c.args.name.now head (measures c.args.geometry) driven_so.gave (first g c) (now g c) c.drive.new.cut driver.supply driven_so.last driven_so.course driven_so.took (can_after g c).supply_is (block_some g c) (streamed g c)
           played (block_there g c)
@@ -291,10 +305,12 @@ returns-clause-played g c =
           jacks = subst (λ jacks. Counts (told_in (events_of c.parts-machine.result.2)) jacks) (sym c.from_vec-5.ensures)
               (subst (λ (events : List Event). Counts (told_in events) closed.jacks.items) (sym told) was.jacks);
           commands = c.in_ok-commands.ensures
-              ∙ ap (λ (codecs : List CodecFile). length (commands_of head.format codecs c.as_slice-2.result.now)) c.as_slice.ensures
-              ∙ ap (λ (plans : List Plan). length (commands_of head.format machine.codecs plans)) c.as_slice-2.ensures.value;
+              ∙ ap (λ (codecs : List CodecFile). length (commands_as c.args.kind head.format codecs c.as_slice-2.result.now)) c.as_slice.ensures
+              ∙ ap (λ (plans : List Plan). length (commands_as c.args.kind head.format machine.codecs plans)) c.as_slice-2.ensures.value
+              ∙ ap (λ (kind : PinKind). length (commands_as kind head.format machine.codecs c.args.plans.items)) (sym (kind_after g c));
           ends = by.ends;
           fault = by.fault;
         };
       };
-    }
+    } in
+    subst (λ (kind : PinKind). IsPlayedFrom kind (g.S.Shelf.told c.args.shelf.now) c.args.name.now head machine c.args.plans.items c.args.geometry c.args.schedule.now played) (kind_after g c) from

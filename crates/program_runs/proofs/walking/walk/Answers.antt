@@ -14,7 +14,10 @@ use Rattle.laws_driver.specs.Sounding.{Parts}
 use Rattle.rig.specs.Follows.{Follows}
 use Rattle.rig.specs.Rigs.{telling_of}
 use Rattle.rig.specs.Replays.{start_of}
-use Rattle.laws_start.specs.Tasks.{commands_of, blocks_of}
+use Rattle.laws_start.specs.Tasks.{blocks_of}
+use Rattle.route_setup.specs.Means.{analog}
+use Rattle.route_planner.specs.declared.pin_kind.PinKind.TheVariants.{Analog}
+use Rattle.program_runs.specs.Outputs.{HavePlansOf, commands_as}
 use Rattle.program_runs.specs.Events.{told_in}
 use Rattle.program_runs.specs.Going.{parts_with}
 use Rattle.program_runs.specs.Walks.{walk_format, walked_task}
@@ -23,6 +26,13 @@ use Rattle.program_runs.proofs.FedRings.{nothing_told, given_nothing, may_held, 
 use Rattle.program_runs.proofs.Gone.{CanGo, Gone, gone, opened_can_go}
 use Rattle.program_runs.proofs.Walked.{driven, none_recorded, walk_ends}
 use Rattle.program_runs.proofs.walking.walk.Goals as goal
+
+-- analog pins are a kind
+pub command_count-requires-clause-plans : goal.command_count-requires-clause-plans
+command_count-requires-clause-plans c =
+    subst (λ (format : Format). HavePlansOf Analog format c.as_slice.result.now c.as_slice-2.result.now) (sym c.walk_format.ensures)
+    (subst (λ (codecs : List CodecFile). HavePlansOf Analog walk_format codecs c.as_slice-2.result.now) (sym c.as_slice.ensures)
+    (subst (λ (plans : List Plan). HavePlansOf Analog walk_format c.args.machine.codecs plans) (sym c.as_slice-2.ensures.value) c.requires.plans))
 
 pub silent_driver-requires-clause-few : goal.silent_driver-requires-clause-few
 silent_driver-requires-clause-few c =
@@ -47,21 +57,21 @@ abbrev task_for : goal.After-from_vec-5 → Task
 task_for c =
     walked_task c.args.machine c.args.plans.items c.in_ok-driver.ensures.fresh.geometry (blocks_of c.in_ok-driver.driver.bring_up c.in_ok-driver.driver.writer)
 
-can_go : (c : goal.After-from_vec-5) → CanGo c.args.machine walk_format c.args.plans.items c.in_ok-driver.driver.play (task_for c) (opened c)
+can_go : (c : goal.After-from_vec-5) → CanGo analog c.args.machine walk_format c.args.plans.items c.in_ok-driver.driver.play (task_for c) (opened c)
 can_go c =
     let driver = c.in_ok-driver.driver in
     let fresh = c.in_ok-driver.ensures.fresh in
     let blocks = blocks_of driver.bring_up driver.writer in
-    opened_can_go c.args.machine walk_format c.args.plans.items fresh.geometry _ driver.play false [] driver.bring_up driver.writer (sound_of c) c.in_ok-driver.ensures.play (λ plays. cc) fresh.opened fresh.apart fresh.ring.fifo_is
+    opened_can_go analog c.args.machine walk_format c.args.plans.items fresh.geometry _ driver.play false [] driver.bring_up driver.writer (sound_of c) c.in_ok-driver.ensures.play (λ plays. cc) fresh.opened fresh.apart fresh.ring.fifo_is
     fresh.ring.format_is
     (c.machines_have_tasks.ensures c.in_ok-driver.driver.setter walk_format c.args.machine c.args.plans.items fresh.geometry false [] blocks c.requires.sound c.requires.whole c.requires.plans c.requires.routed)
     (c.opened_drivers_can_begin.ensures c.in_ok-driver.driver.setter walk_format c.args.machine c.args.plans.items fresh.geometry false [] _ driver.bring_up driver.writer c.requires.sound c.requires.whole fresh.opened)
     (c.machines_rest.ensures c.args.machine)
 
 -- where it has gone
-over : (c : goal.After-from_vec-5) → Gone c.args.machine walk_format c.in_ok-driver.driver.play (task_for c) c.args.schedule.now (opened c) c.in_ok-driven.driven.closed (telling_of c.drive.new.rig).journal
+over : (c : goal.After-from_vec-5) → Gone analog c.args.machine walk_format c.in_ok-driver.driver.play (task_for c) c.args.schedule.now (opened c) c.in_ok-driven.driven.closed (telling_of c.drive.new.rig).journal
 over c =
-    gone (λ format verbs graphs task is. c.drivers_keep_to_progress.ensures c.in_ok-driver.driver.setter format verbs graphs task is) c.args.machine walk_format c.args.plans.items c.in_ok-driver.driver.play
+    gone analog (λ format verbs graphs task is. c.drivers_keep_to_progress.ensures c.in_ok-driver.driver.setter format verbs graphs task is) c.args.machine walk_format c.args.plans.items c.in_ok-driver.driver.play
     (task_for c) c.args.schedule.now (opened c) c.in_ok-driven.driven.closed (telling_of c.in_ok-rig.rig) (telling_of c.drive.new.rig) (telling_of c.drive.new.rig).journal (can_go c) c.requires.limits
     c.in_ok-rig.ensures.told refl (c.in_ok-driven.ensures.driven.driven c.in_ok-driven.ensures.driven.last.held (may_held c.in_ok-driven.ensures.driven.last (whole c)) (ends_held c.in_ok-driven.ensures.driven.last (whole c)))
 
@@ -128,9 +138,9 @@ returns c =
         jacks = subst (λ jacks. Counts (told_in (events_of c.parts-machine.result.2)) jacks) (sym c.from_vec-5.ensures)
             (subst (λ (events : List Event). Counts (told_in events) c.in_ok-driven.driven.closed.jacks.items) (sym told) gone.jacks);
         commands = c.in_ok-commands.ensures
-            ∙ ap (λ (codecs : List CodecFile). length (commands_of c.walk_format.result codecs c.as_slice-2.result.now)) c.as_slice.ensures
-            ∙ ap (λ (plans : List Plan). length (commands_of c.walk_format.result machine.codecs plans)) c.as_slice-2.ensures.value
-            ∙ ap (λ (f : Format). length (commands_of f machine.codecs c.args.plans.items)) c.walk_format.ensures;
+            ∙ ap (λ (codecs : List CodecFile). length (commands_as Analog c.walk_format.result codecs c.as_slice-2.result.now)) c.as_slice.ensures
+            ∙ ap (λ (plans : List Plan). length (commands_as Analog c.walk_format.result machine.codecs plans)) c.as_slice-2.ensures.value
+            ∙ ap (λ (f : Format). length (commands_as Analog f machine.codecs c.args.plans.items)) c.walk_format.ensures;
         ends = by.ends;
         fault = by.fault;
       };

@@ -5,13 +5,13 @@ use Rattle.std.proofs.lemmas.Result.{IfOk-weaker}
 use Rattle.hda_outside.specs.Counts.{Rose}
 use Rattle.hda_outside.specs.Shelf.{Files}
 use Rattle.wav_reader.specs.declared.opened.WavHead.{WavHead}
-use Rattle.hda_program.specs.Playing.{MachinePlays, SoundPlays}
+use Rattle.hda_program.specs.Playing.{PinsPlay, SoundPlays}
 use Rattle.hda_program.specs.declared.message.Message.{Message}
 use Rattle.hda_program.specs.Files.{IsHeadOf, IsWavOpened, bytes_before}
 use Rattle.hda_program.specs.Meanings.{answer_meant}
 use Rattle.hda_program.proofs.PlayLemmas.{SoundPlays-both}
 use Rattle.hda_program.proofs.WalkLemmas.{given_longer}
-use Rattle.hda_program.proofs.play.play_machine.Goals as goal
+use Rattle.hda_program.proofs.play.play_pins.Goals as goal
 use Rattle.hda_outside.proofs.Callers.{Rose-longer}
 
 -- it says this of the shelf as it is then, too
@@ -40,14 +40,14 @@ returns-in-Ok-clause-answers g c =
     let gave_later : ℕ → Type 0 = λ n. given c.play_sound.new.shelf ≤ given c.open_wav_file.new.shelf + n in
     let gave : ℕ → Type 0 = λ n. given c.play_sound.new.shelf ≤ given c.args.shelf.now + n in
     let read = subst (λ (r : Result WavHead Message). IsWavOpened told early gave_early c.args.wav.now r) c.in-Ok.is c.in_ok-head.ensures.read in
-    let answers = subst (λ (files : Option Files). IfOk c.play_sound.result (λ answer. SoundPlays files later emptied_later gave_later c.args.periods c.args.period c.args.wav.now c.args.machine c.in-Ok.head c.args.schedule.now (answer_meant answer))) c.open_wav_file.ensures.told c.play_sound.ensures.answers in
+    let answers = subst (λ (files : Option Files). IfOk c.play_sound.result (λ answer. SoundPlays c.args.kind files later emptied_later gave_later c.args.periods c.args.period c.args.wav.now c.args.machine c.in-Ok.head c.args.schedule.now (answer_meant answer))) c.open_wav_file.ensures.told c.play_sound.ensures.answers in
     IfOk-weaker c.play_sound.result
-    (λ answer. SoundPlays told later emptied_later gave_later c.args.periods c.args.period c.args.wav.now c.args.machine c.in-Ok.head c.args.schedule.now (answer_meant answer))
-    (λ answer. MachinePlays told failed emptied unasked gave c.args.periods c.args.period c.args.machine c.args.wav.now c.args.schedule.now (answer_meant answer))
+    (λ answer. SoundPlays c.args.kind told later emptied_later gave_later c.args.periods c.args.period c.args.wav.now c.args.machine c.in-Ok.head c.args.schedule.now (answer_meant answer))
+    (λ answer. PinsPlay c.args.kind told failed emptied unasked gave c.args.periods c.args.period c.args.machine c.args.wav.now c.args.schedule.now (answer_meant answer))
     (λ answer h. inr (
       c.in-Ok.head,
       read.0,
-      SoundPlays-both told later emptied_later failed emptied (answer_meant answer)
+      SoundPlays-both c.args.kind told later emptied_later failed emptied (answer_meant answer)
           (λ name rose. Rose-longer (faults c.args.shelf.now name) (faults c.open_wav_file.new.shelf name) (faults c.play_sound.new.shelf name) (faults c.play_sound.new.shelf name) (c.open_wav_file.ensures.later name) rose (le_refl (faults c.play_sound.new.shelf name)))
           (λ name rose. Rose-longer (empties c.args.shelf.now name) (empties c.open_wav_file.new.shelf name) (empties c.play_sound.new.shelf name) (empties c.play_sound.new.shelf name) (c.open_wav_file.ensures.empties_later name) rose (le_refl (empties c.play_sound.new.shelf name)))
           gave_later (λ n. gave (bytes_before c.in-Ok.head + n)) (given_longer (given c.args.shelf.now) (given c.open_wav_file.new.shelf) (given c.play_sound.new.shelf) (bytes_before c.in-Ok.head) read.1)
