@@ -9,4 +9,10 @@ pub use Rattle.stream_descriptor.proofs.Placing.{leads_to, leads_nowhere}
 -- the input stream stands for its state whatever the output's descriptor is
 pub use Rattle.stream_descriptor.proofs.Written.{beside_output}
 -- both streams after a write of a register that was settled at each
-pub use Rattle.stream_descriptor.proofs.Written.{Settles, Settled, starts_are, streams_settle}
+pub use Rattle.stream_descriptor.proofs.Written.{Settles, SettlesBy, Settled, SettledBy, starts_are, streams_settle}
+-- so many blocks of a sound are that many
+pub use Rattle.stream_descriptor.proofs.Accepting.{given-count}
+-- each block that a frame brought has a mark
+pub use Rattle.stream_descriptor.proofs.Accepting.{marks-count}
+-- what is due comes again after a cycle
+pub use Rattle.stream_descriptor.proofs.Accepting.{due-cycle}

@@ -12,18 +12,18 @@ use Rattle.world_streams.specs.Output.{fetch, bytes_came, some_completes, some_b
 use Rattle.world_streams.proofs.Callers.{whole, fetch-whole, fetch-stopped, fetch-unusable, left-came, frame-came, not_ready}
 use Rattle.stream_fetch.specs.Fetching.{Fetching}
 use Rattle.stream_fetch.specs.Fetching as fetching
-use Rattle.stream_descriptor.specs.Running.{Playing, StandsFor, LeadsTo, CanPlay, stream_at, with_descriptor, fetched_at, frame_cycle}
+use Rattle.stream_descriptor.specs.Running.{Counts, Playing, StandsFor, StandsForBy, LeadsTo, LeadsToBy, CanPlay, sent_bytes, stream_at, with_descriptor, fetched_at, frame_cycle}
 use Rattle.stream_descriptor.proofs.Placing.{leads_to, ready_is, held_is, runs_on, of_with, with_with}
 
-module _ (playing : Playing) (fields : Fields) (format : Format) (state came : StreamState) (done : Bool)
-    (stands : StandsFor playing fields state) (can : CanPlay fields playing.index format)
-    (frame : came.frame ≡ state.frame) (left : came.left ≡ state.left) where
+module _ (counts : Counts) (playing : Playing) (fields : Fields) (format : Format) (state came : StreamState) (done : Bool)
+    (stands : StandsForBy counts playing fields state) (can : CanPlay fields playing.index format)
+    (frame : came.frame ≡ state.frame) (counted : counts came ≡ counts state) where
   abbrev old : Descriptor
   old = stream_of fields playing.index
 
   pub filled : (after : Fetching) (new : Fields) → fetching.StandsFor after came → after.capacity ≡ playing.fetch.capacity
       → new ≡ with_descriptor playing.index (record old { completion = if done then 1 else old.completion; fifo_ready = worth (nat_le (most_bytes format) (length after.bytes)) 0 }) fields
-      → LeadsTo (record playing { fetch = after }) fields new (whole done false came (stream_at playing.index fields state))
+      → LeadsToBy counts (record playing { fetch = after }) fields new (whole done false came (stream_at playing.index fields state))
   filled after new held capacity is =
       let runs = stands.running can.runs in
       let ready : is_ready (stream_at playing.index fields came) ≡ nat_le (most_bytes format) (length after.bytes) =
@@ -34,27 +34,27 @@ module _ (playing : Playing) (fields : Fields) (format : Format) (state came : S
       (λ on. record {
         fetch = held;
         frame = runs.frame ∙ ap (λ (n : ℕ). n % frame_cycle) (sym frame);
-        position = runs.position ∙ ap (λ (n : ℕ). n % old.buffer_length) (sym left);
+        position = runs.position ∙ ap (λ (n : ℕ). n % old.buffer_length) (sym counted);
         ready = refl;
       })
 
   pub broken : (after : Playing) (new : Fields) → after.index ≡ playing.index → after.fetch.capacity ≡ playing.fetch.capacity → after.fetch.bytes ≡ []
       → new ≡ with_descriptor playing.index (record old { completion = if done then 1 else old.completion; descriptor_error = 1; run = 0; fifo_ready = 0 }) fields
-      → LeadsTo after fields new (whole done true came (stream_at playing.index fields state))
+      → LeadsToBy counts after fields new (whole done true came (stream_at playing.index fields state))
   broken after new index capacity empty is =
       leads_to after fields new (whole done true came (stream_at playing.index fields state))
       (is ∙ ap (λ (i : ℕ). with_descriptor i (record old { completion = if done then 1 else old.completion; descriptor_error = 1; run = 0; fifo_ready = 0 }) fields) (sym index))
       (capacity ∙ stands.capacity) (λ off. empty) (λ on. runs_on _ on refl)
 
 -- RUN rose
-pub started : (index : ℕ) (after : Fetching) (fields new : Fields) → fetching.StandsFor after begun → after.capacity ≡ fields.shape.fifo
+pub started : (counts : Counts) → counts begun ≡ 0 → (index : ℕ) (after : Fetching) (fields new : Fields) → fetching.StandsFor after begun → after.capacity ≡ fields.shape.fifo
     → is_running (stream_of fields index) ≡ true → new ≡ with_descriptor index (record (stream_of fields index) { link_position = 0; fifo_ready = 0 }) fields
-    → StandsFor (record { index = index; fetch = after; frame = 0 }) new begun
-started index after fields new held capacity runs is =
+    → StandsForBy counts (record { index = index; fetch = after; frame = 0 }) new begun
+started counts none index after fields new held capacity runs is =
     let d : Descriptor = record (stream_of fields index) { link_position = 0; fifo_ready = 0 } in
     (leads_to (record { index = index; fetch = after; frame = 0 }) fields new (record { descriptor = d; state = begun }) is capacity
     (λ off. runs_on _ runs off)
-    (λ on. record { fetch = held; frame = refl; position = sym (zero-mod d.buffer_length); ready = sym (not_ready d) })).stands
+    (λ on. record { fetch = held; frame = refl; position = sym (ap (λ (n : ℕ). n % d.buffer_length) none ∙ zero-mod d.buffer_length); ready = sym (not_ready d) })).stands
 
 -- ---- a fetch, call by call
 
@@ -122,10 +122,10 @@ module _ (playing last_playing : Playing) (after : Fetching) (fields one two thr
       let left = left-came fields.shape.fifo memory most (list_address here) here.last_index state in
       let shown = shown_ready playing.index fields one two _ _ first second in
       let by_broke : (b : Bool) → broke ≡ b → LeadsTo last_playing fields three (whole done b came_state stream) = λ b. elim b as (λ b. broke ≡ b → LeadsTo last_playing fields three (whole done b came_state stream)) [
-        | true ↦ λ is. broken playing fields format state came_state done stands can frame left last_playing three index (kept_capacity ∙ capacity) (empty is)
+        | true ↦ λ is. broken sent_bytes playing fields format state came_state done stands can frame left last_playing three index (kept_capacity ∙ capacity) (empty is)
             (shown_broken playing.index fields two three _ _ shown (broken_is is))
         | false ↦ λ is. subst (λ (p : Playing). LeadsTo p fields three (whole done false came_state stream)) (sym (kept is))
-            (filled playing fields format state came_state done stands can frame left after three came capacity (whole_is is ∙ shown))
+            (filled sent_bytes playing fields format state came_state done stands can frame left after three came capacity (whole_is is ∙ shown))
       ] in
       subst (LeadsTo last_playing fields three) (sym (fetch-whole fields.shape.fifo memory most stream can.runs can.usable runs.ready))
       (subst (λ (c : Bool). LeadsTo last_playing fields three (whole c (some_breaks most fields.shape.fifo memory (list_address here) here.last_index state) came_state stream)) done_is

@@ -4,3 +4,6 @@ mod Passing
 mod Settling
 mod Written
 pub mod Callers
+mod Accepting
+mod Taking
+mod Emptying

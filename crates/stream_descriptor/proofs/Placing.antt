@@ -8,7 +8,7 @@ use Rattle.stream_format.specs.Cadence.{most_bytes}
 use Rattle.world_streams.specs.Streams.{StreamState, Stream, held, is_ready}
 use Rattle.stream_fetch.specs.Fetching.{Fetching}
 use Rattle.stream_fetch.specs.Fetching as fetching
-use Rattle.stream_descriptor.specs.Running.{Playing, StandsFor, LeadsTo, Runs, CanPlay, stream_at, with_descriptor}
+use Rattle.stream_descriptor.specs.Running.{Counts, Playing, StandsForBy, LeadsToBy, RunsBy, CanPlay, stream_at, with_descriptor}
 
 pub of_with : (index : ℕ) (d : Descriptor) (fields : Fields) → stream_of (with_descriptor index d fields) index ≡ d
 of_with index d fields = by_zero (index == 0)
@@ -66,22 +66,22 @@ held_is fetch state stands = ap length stands.bytes ∙ length-drop state.left s
 -- ---- what it leads to
 
 -- new registers that have this descriptor, and what stands for the stream then
-pub leads_to : (playing : Playing) (old new : Fields) (stream : Stream) → new ≡ with_descriptor playing.index stream.descriptor old → playing.fetch.capacity ≡ old.shape.fifo
-    → (is_running stream.descriptor ≡ false → playing.fetch.bytes ≡ []) → (is_running stream.descriptor ≡ true → Runs playing stream) → LeadsTo playing old new stream
-leads_to playing old new stream is capacity stopped running =
+pub leads_to : {counts : Counts} (playing : Playing) (old new : Fields) (stream : Stream) → new ≡ with_descriptor playing.index stream.descriptor old → playing.fetch.capacity ≡ old.shape.fifo
+    → (is_running stream.descriptor ≡ false → playing.fetch.bytes ≡ []) → (is_running stream.descriptor ≡ true → RunsBy counts playing stream) → LeadsToBy counts playing old new stream
+leads_to {counts} playing old new stream is capacity stopped running =
     let here : stream_of new playing.index ≡ stream.descriptor = ap (λ (fields : Fields). stream_of fields playing.index) is ∙ of_with playing.index stream.descriptor old in
     record {
       registers = is;
       stands = record {
         capacity = capacity ∙ sym (ap (λ (fields : Fields). fields.shape.fifo) is);
         stopped = λ off. stopped (ap is_running (sym here) ∙ off);
-        running = λ on. subst (λ (d : Descriptor). Runs playing (record { descriptor = d; state = stream.state })) (sym here) (running (ap is_running (sym here) ∙ on));
+        running = λ on. subst (λ (d : Descriptor). RunsBy counts playing (record { descriptor = d; state = stream.state })) (sym here) (running (ap is_running (sym here) ∙ on));
       };
     }
 
 -- nothing changed
-pub leads_nowhere : (playing : Playing) (fields : Fields) (state : StreamState) → StandsFor playing fields state
-    → LeadsTo playing fields fields (stream_at playing.index fields state)
+pub leads_nowhere : {counts : Counts} (playing : Playing) (fields : Fields) (state : StreamState) → StandsForBy counts playing fields state
+    → LeadsToBy counts playing fields fields (stream_at playing.index fields state)
 leads_nowhere playing fields state stands = record { registers = sym (with_same playing.index fields); stands = stands }
 
 -- a stream that runs does not stand still

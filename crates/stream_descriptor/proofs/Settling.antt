@@ -5,12 +5,12 @@ use Rattle.hda_registers.specs.Fields.{Fields, is_running, stream_of}
 use Rattle.hda_registers.specs.Access.{written}
 use Rattle.world_streams.specs.Streams.{SamePlay, StreamState}
 use Rattle.world_streams.proofs.Callers.{write_plays}
-use Rattle.stream_descriptor.specs.Running.{Playing, StandsFor, StoodFor}
+use Rattle.stream_descriptor.specs.Running.{Counts, Playing, StandsForBy, StoodForBy}
 
 -- a stream that stood for its state before a write
-pub stood_written : (playing : Playing) (before new : Fields) (at : ℕ) (width : Width) (value : ℕ) (state : StreamState) → StandsFor playing before state
+pub stood_written : {counts : Counts} (playing : Playing) (before new : Fields) (at : ℕ) (width : Width) (value : ℕ) (state : StreamState) → StandsForBy counts playing before state
     → stream_of new playing.index ≡ stream_of (written before at width value) playing.index → new.shape ≡ before.shape
-    → StoodFor playing new (stream_of before playing.index) state
+    → StoodForBy counts playing new (stream_of before playing.index) state
 stood_written playing before new at width value state stands here shape = record {
   capacity = stands.capacity ∙ sym (ap (λ s. s.fifo) shape);
   stopped = stands.stopped;

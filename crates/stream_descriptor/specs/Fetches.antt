@@ -1,4 +1,4 @@
--- What a fetch does over any registers. High Definition Audio 1.0a, 3.3.35, 3.3.36 and 3.6.
+-- What a fetch does over any registers, and what it may come to. High Definition Audio 1.0a, 3.3.35, 3.3.36 and 3.6.
 use Rattle.std.specs.Prelude.{◌≡◌, ℕ, ◌&&◌, Bool, true, false, nat_lt, nat_le, List, [], length, if◌then◌else◌}
 use Rattle.hda_registers.specs.Fields.{Descriptor, Fields, is_out_of_reset, is_running, list_address, stream_of}
 use Rattle.hda_registers.specs.Status.{worth}
@@ -8,7 +8,7 @@ use Rattle.world_streams.specs.Output.{bytes_came, some_breaks, some_completes}
 use Rattle.stream_fetch.specs.Fetching as fetching
 use Rattle.stream_descriptor.specs.Running.{Playing, with_descriptor}
 
--- a descriptor after some bytes came: BCIS where a buffer with IOC ended, and FIFORDY by what the FIFO holds
+-- a descriptor after some bytes came, or went: BCIS where a buffer with IOC ended, and FIFORDY by what the FIFO holds
 abbrev pub came_to : (done : Bool) → (held : ℕ) → Descriptor → Descriptor
 came_to done held descriptor = record descriptor {
   completion = if done then 1 else descriptor.completion;
@@ -29,7 +29,7 @@ pub record Broke (done : Bool) (playing : Playing) (old : Fields) (after : Playi
   pub empty : after.fetch.bytes ≡ []
   pub registers : new ≡ with_descriptor playing.index (broke_at done (stream_of old playing.index)) old
 
--- or the FIFO holds the bytes that came
+-- or the FIFO stands for the state to which the bytes led
 pub record Came (done : Bool) (came : StreamState) (playing : Playing) (old : Fields) (after : Playing) (new : Fields)
     : Type 0 where
   pub fetch : fetching.StandsFor after.fetch came

@@ -1,3 +1,4 @@
 pub mod Running
 pub mod Frames
 pub mod Fetches
+pub mod Taking

@@ -1,4 +1,4 @@
-//! An output stream.
+//! A stream at a descriptor: what starts and stops it, and what an output stream does.
 ghost use Rattle.std.specs.Prelude.{◌≡◌, ◌≤◌, ◌<◌, ◌+◌, ◌*◌, ◌%◌, true, false, [], IfOk, length, nat_le, ◌&&◌, take};
 ghost use Rattle.std.specs.Prelude.{drop, ◌++◌, if◌then◌else◌, option_map, None};
 ghost use Rattle.hda_registers.specs.Laws.{IsHeldInReset};
@@ -11,10 +11,13 @@ ghost use Rattle.world_streams.specs.Output as output;
 ghost use Rattle.hda_registers.specs.Status.{worth};
 ghost use Rattle.stream_format.specs.Cadence.{most_bytes};
 ghost use Rattle.stream_descriptor.specs.Running.{StandsFor, StoodFor, LeadsTo, CanPlay, stream_at, with_descriptor};
+ghost use Rattle.stream_descriptor.specs.Running.{Counts, StandsForBy, StoodForBy, LeadsToBy};
 ghost use Rattle.stream_descriptor.specs.Running.{fetched_at, found_at};
 ghost use Rattle.stream_descriptor.specs.Frames.{IsAnswer, IsKind, found_by, found_due};
 ghost use Rattle.stream_descriptor.specs.Fetches.{WasFetched, WasFilled};
 ghost use Rattle.stream_fetch.specs.Fetching as fetching;
+
+mod taking;
 
 use crate::frame::{Frame, MOST_FRAME_BYTES};
 use hda_registers::{Moved, Raise, Registers};
@@ -26,7 +29,7 @@ use stream_format::Format;
 /// After so many link frames every cadence is where it was: a multiple of 1, 3, 6 and 160.
 const FRAME_CYCLE: u16 = 480;
 
-/// An output stream at a descriptor. Contracts see the descriptor's index, its FIFO, and the link frames modulo 480.
+/// A stream at a descriptor. Contracts see the descriptor's index, its FIFO, and the link frames modulo 480.
 #[derive(Drop)]
 pub struct Stream {
     index: u8,
@@ -75,6 +78,10 @@ impl Stream {
         ensures stands { is_running (stream_of regs.old self.old.index) ≡ true
             → self.old.fetch.capacity ≡ regs.old.shape.fifo
             → StandsFor self.new regs.new begun }
+        ensures counted { (counts : Counts) → counts begun ≡ 0
+            → is_running (stream_of regs.old self.old.index) ≡ true
+            → self.old.fetch.capacity ≡ regs.old.shape.fifo
+            → StandsForBy counts self.new regs.new begun }
         ensures anew { fetching.StandsFor self.new.fetch begun }
         ensures frame { self.new.frame ≡ 0 }
         ensures capacity { self.new.fetch.capacity ≡ self.old.fetch.capacity }
@@ -95,6 +102,15 @@ impl Stream {
               descriptor = streams.settled old (stream_of regs.old self.old.index);
               state = streams.settled_state old (stream_of regs.old self.old.index) state;
             }) }
+        ensures counted { (counts : Counts) (old : Descriptor) (state : StreamState) → counts begun ≡ 0
+            → IsHeldInReset regs.old
+            → started ≡ rose old (stream_of regs.old self.old.index)
+            → stopped ≡ fell old (stream_of regs.old self.old.index)
+            → StoodForBy counts self.old regs.old old state
+            → LeadsToBy counts self.new regs.old regs.new (record {
+              descriptor = streams.settled old (stream_of regs.old self.old.index);
+              state = streams.settled_state old (stream_of regs.old self.old.index) state;
+            }) }
     {
         if started && regs.is_out_of_reset() {
             self.start(regs);
@@ -111,6 +127,9 @@ impl Stream {
             else regs.old) }
         ensures stands { (state : StreamState) → is_running (stream_of regs.old self.old.index) ≡ false
             → self.old.fetch.capacity ≡ regs.old.shape.fifo → StandsFor self.new regs.new state }
+        ensures counted { (counts : Counts) (state : StreamState)
+            → is_running (stream_of regs.old self.old.index) ≡ false
+            → self.old.fetch.capacity ≡ regs.old.shape.fifo → StandsForBy counts self.new regs.new state }
         ensures empty { self.new.fetch.bytes ≡ [] }
         ensures capacity { self.new.fetch.capacity ≡ self.old.fetch.capacity }
     {

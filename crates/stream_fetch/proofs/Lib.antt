@@ -1,3 +1,6 @@
 mod Standing
 mod Runs
 mod Rest
+mod Stores
+mod Putting
+mod Remaining

@@ -1,10 +1,11 @@
 -- What a FIFO stands for, byte by byte.
 use Rattle.std.proofs.Common.{◌≡◌, ◌<◌, ◌≤◌, ◌+◌, ◌-◌, ◌==◌, ℕ, true, false, List, ◌++◌, length, take, drop, refl, sym, ap, ◌∙◌, arith, rules, tests, length-append, length-drop}
-use Rattle.std.proofs.lemmas.List.{drop-append-le}
+use Rattle.std.proofs.lemmas.List.{drop-append-le, drop-drop}
 use Rattle.world_streams.specs.Streams.{StreamState}
 use Rattle.world_streams.specs.Output.{has_room, next_of}
 use Rattle.stream_fetch.specs.Bytes.{after_bytes, with_bytes}
 use Rattle.stream_fetch.specs.Fetching.{Fetching, StandsFor}
+use Rattle.stream_fetch.proofs.Stores.{with_stored}
 
 -- how many bytes it holds
 pub held_length : (fetch : Fetching) (state : StreamState) → StandsFor fetch state → length fetch.bytes ≡ length state.entered - state.left
@@ -41,4 +42,19 @@ some_more count base last fetch state memory stands =
       bytes = ap (λ (bytes : List ℕ). bytes ++ more) stands.bytes ∙ sym (drop-append-le state.left state.entered more behind);
       list = refl;
       behind = rw (length-append state.entered more) (omega (arith, behind));
+    }
+
+-- some bytes less
+pub some_less : (count base last : ℕ) (fetch : Fetching) (state : StreamState) (memory : List ℕ) → StandsFor fetch state → count ≤ length fetch.bytes
+    → StandsFor (record fetch {
+      bytes = drop count fetch.bytes;
+      list = after_bytes count last (next_of memory base state) state.list;
+    }) (with_stored count base last (record { memory = memory; state = state })).state
+some_less count base last fetch state memory stands few =
+    let long = held_length fetch state stands in
+    let behind = stands.behind in
+    record {
+      bytes = ap (drop count) stands.bytes ∙ drop-drop count state.left state.entered;
+      list = refl;
+      behind = omega (arith, behind, long, few);
     }

@@ -1,5 +1,5 @@
--- What a FIFO that is filled from a list of buffers is seen as, and the state of a stream that it stands for. High
--- Definition Audio 1.0a, 3.6.2 and 4.5.
+-- What a FIFO that is filled from a list of buffers, or emptied into one, is seen as, and the state of a stream that it
+-- stands for. High Definition Audio 1.0a, 3.6.2 and 4.5.
 use Rattle.std.specs.Prelude.{◌≡◌, ◌≤◌, ℕ, List, length}
 use Rattle.world_streams.specs.declared.buffers.ListPlace.{ListPlace}
 use Rattle.world_streams.specs.Streams.{StreamState, held_bytes}

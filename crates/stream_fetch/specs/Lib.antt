@@ -1,4 +1,5 @@
 pub mod Fetching
 -- what private functions promise one another
 pub mod Bytes
+pub mod Storing
 pub mod InUse

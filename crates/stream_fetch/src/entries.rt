@@ -22,7 +22,7 @@ pub(crate) fn buffer_at(memory: &[u8], base: u32, index: u8) -> Buffer
     }
 }
 
-/// Whether a stream can fetch from the buffer.
+/// Whether a stream can use the buffer.
 pub(crate) fn is_good(memory: &[u8], buffer: Buffer) -> bool
     ensures { result ≡ lists.is_good memory.now buffer }
 {

@@ -1,4 +1,4 @@
-//! A FIFO that is filled from a list of buffers.
+//! A FIFO with its place in a list of buffers: that of an output stream is filled from the list.
 ghost use Rattle.std.specs.Prelude.{◌≡◌, ◌≤◌, ◌<◌, ◌+◌, ◌-◌, [], ◌∷◌, ◌++◌, true, false, IsTrue, IfOk, length, min};
 ghost use Rattle.std.specs.Prelude.{nat_le, drop, take};
 ghost use Rattle.world_streams.specs.Streams.{StreamState, begun, held, held_bytes};
@@ -8,10 +8,13 @@ ghost use Rattle.stream_fetch.specs.Fetching.{StandsFor};
 ghost use Rattle.stream_fetch.specs.Bytes.{AreAtMost, AreBytes, count_of};
 ghost use Rattle.circular_buffer.specs.Buffer.{buffer};
 
+mod storing;
+
 use crate::entries::{after_bytes, buffer_at, is_good};
 use circular_buffer::HeapCircularBuffer;
 use std::alloc::{AllocError, Global};
 use std::marker::Model;
+pub use storing::Stored;
 use world_streams::{Buffer, ListPlace};
 
 /// Before the first byte of a list.
@@ -103,7 +106,7 @@ impl Fetch {
         self.fifo.len() as u32
     }
 
-    /// The buffer that the next byte comes from.
+    /// The buffer that the next byte comes from, or goes to.
     fn next_buffer(&self, memory: &[u8], base: u32) -> Buffer
         ensures next { (state : StreamState) → StandsFor self.now state
             → result ≡ output.next_of memory.now base state }

@@ -5,23 +5,23 @@ use Rattle.world_streams.specs.Lists.{is_good}
 use Rattle.world_streams.specs.Streams.{StreamState}
 use Rattle.world_streams.specs.Output.{has_room, next_of, with_byte, completes, can_come, next_byte, bytes_came, some_completes, some_breaks}
 
-and_none : (one other : Bool) → one ≡ false → (one && other) ≡ false
+pub and_none : (one other : Bool) → one ≡ false → (one && other) ≡ false
 and_none false other h = refl
 and_none true other h = absurd (true≢false h)
 
-none_and : (one other : Bool) → other ≡ false → (one && other) ≡ false
+pub none_and : (one other : Bool) → other ≡ false → (one && other) ≡ false
 none_and true other h = h
 none_and false other h = refl
 
-or_none : (one other : Bool) → one ≡ false → (one || other) ≡ other
+pub or_none : (one other : Bool) → one ≡ false → (one || other) ≡ other
 or_none false other h = refl
 or_none true other h = absurd (true≢false h)
 
-turned : (one : Bool) → one ≡ true → not one ≡ false
+pub turned : (one : Bool) → one ≡ true → not one ≡ false
 turned true h = refl
 turned false h = absurd (true≢false (sym h))
 
-turned_on : (one : Bool) → one ≡ false → not one ≡ true
+pub turned_on : (one : Bool) → one ≡ false → not one ≡ true
 turned_on false h = refl
 turned_on true h = absurd (true≢false h)
 

@@ -3,3 +3,6 @@ pub mod Coming
 pub mod Whole
 pub mod Formats
 pub mod Writing
+pub mod Blocks
+pub mod Going
+pub mod Stored

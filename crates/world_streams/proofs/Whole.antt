@@ -27,6 +27,25 @@ fetched_whole n fifo memory stream =
     (some_breaks n fifo memory (list_address stream.descriptor) stream.descriptor.last_index stream.state)
     (bytes_came n fifo memory (list_address stream.descriptor) stream.descriptor.last_index stream.state) stream
 
+-- what is shown already stays
+pub shows_same : (stream : Stream) → Shows stream → with_ready stream ≡ stream
+shows_same stream shows = ap (λ (ready : ℕ). record stream { descriptor = record stream.descriptor { fifo_ready = ready } }) (sym shows)
+
+one_completion : (first later : Bool) (old : ℕ) → let one : ℕ = if later then 1 else (if first then 1 else old) in one ≡ (if (first || later) then 1 else old)
+one_completion true true old = refl
+one_completion true false old = refl
+one_completion false later old = refl
+
+-- what comes after a byte, from before it
+pub whole-byte : (memory : List ℕ) (first later breaks : Bool) (state : StreamState) (stream : Stream) → completes memory (list_address stream.descriptor) stream.state ≡ first
+    → whole later breaks state (byte_came memory stream) ≡ whole (first || later) breaks state stream
+whole-byte memory first later breaks state stream is =
+    ap (λ (completion : ℕ). let came : Stream = with_ready (record { descriptor = record stream.descriptor { completion = completion }; state = state }) in if breaks then broke came else came)
+    (ap (λ (c : Bool). let one : ℕ = if later then 1 else (if c then 1 else stream.descriptor.completion) in one) is ∙ one_completion first later stream.descriptor.completion)
+
+pub whole_same : (c c' b b' : Bool) (s s' : StreamState) (stream : Stream) → c ≡ c' → b ≡ b' → s ≡ s' → whole c b s stream ≡ whole c' b' s' stream
+whole_same c c' b b' s s' stream first second third = rw (first, second, third) refl
+
 module _ (fifo : ℕ) (memory : List ℕ) where
   moves_stay : (n : ℕ) (stream : Stream) → fetch_move fifo memory stream ≡ stream → moves n (fetch_move fifo memory) stream ≡ stream
   moves_stay zero stream same = refl
@@ -61,24 +80,6 @@ module _ (fifo : ℕ) (memory : List ℕ) where
   frame-came (suc n) base last state =
       frame-came n base last (next_byte fifo memory base last state) ∙ (same_rest base last state (can_come fifo memory base state)).1
 
-  shows_same : (stream : Stream) → Shows stream → with_ready stream ≡ stream
-  shows_same stream shows = ap (λ (ready : ℕ). record stream { descriptor = record stream.descriptor { fifo_ready = ready } }) (sym shows)
-
-  one_completion : (first later : Bool) (old : ℕ) → let one : ℕ = if later then 1 else (if first then 1 else old) in one ≡ (if (first || later) then 1 else old)
-  one_completion true true old = refl
-  one_completion true false old = refl
-  one_completion false later old = refl
-
-  -- what comes after a byte, from before it
-  whole-byte : (first later breaks : Bool) (state : StreamState) (stream : Stream) → completes memory (list_address stream.descriptor) stream.state ≡ first
-      → whole later breaks state (byte_came memory stream) ≡ whole (first || later) breaks state stream
-  whole-byte first later breaks state stream is =
-      ap (λ (completion : ℕ). let came : Stream = with_ready (record { descriptor = record stream.descriptor { completion = completion }; state = state }) in if breaks then broke came else came)
-      (ap (λ (c : Bool). let one : ℕ = if later then 1 else (if c then 1 else stream.descriptor.completion) in one) is ∙ one_completion first later stream.descriptor.completion)
-
-  whole_same : (c c' b b' : Bool) (s s' : StreamState) (stream : Stream) → c ≡ c' → b ≡ b' → s ≡ s' → whole c b s stream ≡ whole c' b' s' stream
-  whole_same c c' b b' s s' stream first second third = rw (first, second, third) refl
-
   no_room : (n : ℕ) (stream : Stream) → has_room fifo stream.state ≡ false → fetched_whole n fifo memory stream ≡ fetched_whole (suc n) fifo memory stream
   no_room n stream full =
       let base = list_address stream.descriptor in
@@ -105,7 +106,7 @@ module _ (fifo : ℕ) (memory : List ℕ) where
   good_entry n stream room good =
       let base = list_address stream.descriptor in
       let last = stream.descriptor.last_index in
-      whole-byte _ _ _ _ stream refl
+      whole-byte memory _ _ _ _ stream refl
       ∙ whole_same _ _ _ _ _ _ stream
       (sym (completes_or fifo memory base last n stream.state room good))
       (sym (breaks_later fifo memory base last n stream.state room good))

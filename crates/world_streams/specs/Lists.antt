@@ -1,7 +1,8 @@
--- The list of buffers that a stream fetches from: High Definition Audio 1.0a, 3.6.2 and 3.6.3. That a buffer which is
--- empty or does not lie in the region stops the stream is this project's own.
-use Rattle.std.specs.Prelude.{ℕ, ◌==◌, ◌&&◌, ◌+◌, ◌*◌, ◌%◌, ◌^◌, Bool, not, nat_le, nat_lt, List, length, slice_index}
-use Rattle.std.specs.Prelude.{Some, None, unwrap_or, if◌then◌else◌}
+-- The list of buffers that an output stream fetches from and an input stream stores into: High Definition Audio 1.0a,
+-- 3.6.2 and 3.6.3. That a buffer which is empty or does not lie in the region stops the stream is this project's own.
+-- What is called fetched here is of an input stream stored.
+use Rattle.std.specs.Prelude.{◌≡◌, ℕ, ◌==◌, ◌&&◌, ◌<◌, ◌+◌, ◌*◌, ◌%◌, ◌^◌, Bool, not, nat_le, nat_lt, List, length}
+use Rattle.std.specs.Prelude.{slice_index, Option, Some, None, unwrap_or, if◌then◌else◌}
 use Rattle.world_rings.specs.Memory.{word_at}
 use Rattle.world_streams.specs.declared.buffers.Buffer.{Buffer}
 use Rattle.world_streams.specs.declared.buffers.ListPlace.{ListPlace}
@@ -22,11 +23,11 @@ buffer_of memory base index =
       interrupts = word_at memory (at + 12) % 2 == 1;
     }
 
--- the buffer that the next byte comes from
+-- the buffer that the next byte comes from, or goes to
 abbrev pub next_buffer : List ℕ → ℕ → ListPlace → Buffer
 next_buffer memory base place = unwrap_or place.buffer (buffer_of memory base place.index)
 
--- a stream can fetch from a buffer: its address is a multiple of 128, it has bytes, and they lie in the region
+-- a stream can use a buffer: its address is a multiple of 128, it has bytes, and they lie in the region
 abbrev pub is_good : List ℕ → Buffer → Bool
 is_good memory buffer =
     buffer.address % BUFFER_ALIGNMENT == 0 && not (buffer.bytes == 0) && nat_le (buffer.address + buffer.bytes)
@@ -49,3 +50,11 @@ abbrev pub after_byte : ℕ → Buffer → ListPlace → ListPlace
 after_byte last buffer place =
     if is_last_byte buffer place then record { index = next_index last place.index; buffer = None; fetched = 0 }
     else record { index = place.index; buffer = Some buffer; fetched = place.fetched + 1 }
+
+-- a buffer in use has a byte that was not fetched, and of one that is read next none was
+abbrev pub HasMore : Option Buffer → ℕ → Type 0
+HasMore None fetched = fetched ≡ 0
+HasMore (Some buffer) fetched = fetched < buffer.bytes
+
+abbrev pub IsInUse : ListPlace → Type 0
+IsInUse place = HasMore place.buffer place.fetched
