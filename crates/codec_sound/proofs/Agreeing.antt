@@ -3,7 +3,7 @@ use Rattle.std.proofs.Common.{◌≡◌, ℕ, suc, ◌+◌, Bool, true, false, c
 use Rattle.std.proofs.lemmas.Option.{get_or_from_slice_get, slice_get_within}
 use Rattle.codec_graph.specs.declared.raw.RawNode.{RawNode}
 use Rattle.codec_graph.specs.declared.raw.RawCodec.{RawCodec}
-use Rattle.codec_graph.specs.Widget.{node_at, is_output_converter, is_mixer, is_selector, is_pin, is_stereo}
+use Rattle.codec_graph.specs.Widget.{node_at, is_input_converter, is_mixer, is_selector, is_pin, is_stereo}
 use Rattle.codec_graph.specs.Cycles.{inner_list_of, inner_list}
 use Rattle.codec_graph.specs.Settings.{Entries}
 use Rattle.route_planner.specs.declared.pin_kind.PinKind.{PinKind}
@@ -11,8 +11,11 @@ use Rattle.route_planner.specs.declared.pin_kind.PinKind.TheVariants.{Analog, Di
 use Rattle.codec_sound.specs.declared.signals.Signal.{Signal}
 use Rattle.codec_sound.specs.declared.signals.Signal.TheVariants.{Silence}
 use Rattle.codec_sound.specs.declared.streams.LinkStream.{LinkStream}
+use Rattle.codec_sound.specs.declared.sources.Sources.{Sources}
+use Rattle.codec_sound.specs.declared.sources.Sources.TheVariants.{Converters}
 use Rattle.codec_sound.specs.Amplifiers.{changed_if, after_output, after_input}
-use Rattle.codec_sound.specs.Signals.{is_off, is_foreign, converted, mixed, mixed_as, selected_place, selected, passed_on, made, given_at, gives_as, is_silent_pin, comes_from, hears}
+use Rattle.codec_sound.specs.Signals.{is_off, is_foreign, mixed, mixed_as, selected_place, selected, passed_on, is_source, source_signal, source_kind, made_from, given_from_at, gives_from, gives_as, is_silent_pin, comes_from, hears}
+use Rattle.codec_sound.specs.Inward.{hears_in}
 
 -- an element at the front, and one behind it
 pub contains_first : {X : Type 0} (x : X) (xs : List X) → Contains (x ∷ xs) x
@@ -59,21 +62,24 @@ mixed_as-agree : (kind : PinKind) (codec : RawCodec) (settings : Entries) (f g :
 mixed_as-agree Analog codec settings f g nid node same = ap (changed_if (not (is_stereo node))) (mixed-agree codec settings f g nid node node.list 0 same)
 mixed_as-agree Digital codec settings f g nid node same = refl
 
-made-agree : (kind : PinKind) (codec : RawCodec) (settings : Entries) (stream : LinkStream) (f g : ℕ → Signal) (nid : ℕ) (node : RawNode) → ((to : ℕ) → Contains (inner_list_of (Some node)) to → f to ≡ g to) → made kind codec settings stream f nid node ≡ made kind codec settings stream g nid node
-made-agree kind codec settings stream f g nid node same =
-    choice-agree (is_output_converter node) (is_mixer node) (is_selector node) (converted kind settings stream nid node) _ _ _ _ Silence
-    (λ mixer. mixed_as-agree kind codec settings f g nid node (λ to h. same to (rw (listed_left (is_mixer node) (is_selector node) node.list mixer) h)))
+made-agree : (sources : Sources) (codec : RawCodec) (settings : Entries) (f g : ℕ → Signal) (nid : ℕ) (node : RawNode) → ((to : ℕ) → Contains (inner_list_of (Some node)) to → f to ≡ g to) → made_from sources codec settings f nid node ≡ made_from sources codec settings g nid node
+made-agree sources codec settings f g nid node same =
+    choice-agree (is_source sources node) (is_mixer node) (is_selector node) (source_signal sources codec settings nid node) _ _ _ _ Silence
+    (λ mixer. mixed_as-agree (source_kind sources) codec settings f g nid node (λ to h. same to (rw (listed_left (is_mixer node) (is_selector node) node.list mixer) h)))
     (λ selector. ap (changed_if (not (is_stereo node))) (passed_on-agree codec settings f g nid node (selected settings nid node) (λ to is. same to (rw (listed_right (is_mixer node) (is_selector node) node.list selector) (selected_listed settings nid node to is)))))
 
-given_at-agree : (kind : PinKind) (codec : RawCodec) (settings : Entries) (stream : LinkStream) (f g : ℕ → Signal) (nid : ℕ) (o : Option RawNode) → ((to : ℕ) → Contains (inner_list_of o) to → f to ≡ g to) → given_at kind codec settings stream f nid o ≡ given_at kind codec settings stream g nid o
-given_at-agree kind codec settings stream f g nid None same = refl
-given_at-agree kind codec settings stream f g nid (Some node) same =
-    ap (λ (signal : Signal). cond (is_off codec settings nid node) Silence (after_output codec settings nid node signal)) (made-agree kind codec settings stream f g nid node same)
+given_at-agree : (sources : Sources) (codec : RawCodec) (settings : Entries) (f g : ℕ → Signal) (nid : ℕ) (o : Option RawNode) → ((to : ℕ) → Contains (inner_list_of o) to → f to ≡ g to) → given_from_at sources codec settings f nid o ≡ given_from_at sources codec settings g nid o
+given_at-agree sources codec settings f g nid None same = refl
+given_at-agree sources codec settings f g nid (Some node) same =
+    ap (λ (signal : Signal). cond (is_off codec settings nid node) Silence (after_output codec settings nid node signal)) (made-agree sources codec settings f g nid node same)
 
 -- what a node gives is the same where what its listed nodes give is
+pub gives-agree-from : (sources : Sources) (codec : RawCodec) (settings : Entries) (f g : ℕ → Signal) (nid : ℕ) → ((to : ℕ) → Contains (inner_list codec nid) to → f to ≡ g to) → gives_from sources codec settings f nid ≡ gives_from sources codec settings g nid
+unfolding gives_from
+gives-agree-from sources codec settings f g nid same = given_at-agree sources codec settings f g nid (node_at codec nid) same
+
 pub gives-agree : (kind : PinKind) (codec : RawCodec) (settings : Entries) (stream : LinkStream) (f g : ℕ → Signal) (nid : ℕ) → ((to : ℕ) → Contains (inner_list codec nid) to → f to ≡ g to) → gives_as kind codec settings stream f nid ≡ gives_as kind codec settings stream g nid
-unfolding gives_as
-gives-agree kind codec settings stream f g nid same = given_at-agree kind codec settings stream f g nid (node_at codec nid) same
+gives-agree kind codec settings stream = gives-agree-from (Converters kind stream) codec settings
 
 comes_from-agree : (f g : ℕ → Signal) (o : Option ℕ) → ((to : ℕ) → f to ≡ g to) → comes_from f o ≡ comes_from g o
 comes_from-agree f g None same = refl
@@ -85,3 +91,13 @@ hears-agree kind codec settings f g nid None same = refl
 hears-agree kind codec settings f g nid (Some node) same =
     ap (λ (signal : Signal). cond (is_pin node) (cond (is_silent_pin codec settings nid node) Silence (changed_if (not (is_stereo node) || is_foreign kind node) (after_output codec settings nid node signal))) Silence)
     (comes_from-agree f g (selected settings nid node) same)
+
+-- what an input converter hears is the same where what all nodes give on the way in is
+passed_on-all : (codec : RawCodec) (settings : Entries) (f g : ℕ → Signal) (nid : ℕ) (node : RawNode) → ((to : ℕ) → f to ≡ g to) → passed_on codec settings f nid node (selected settings nid node) ≡ passed_on codec settings g nid node (selected settings nid node)
+passed_on-all codec settings f g nid node same = passed_on-agree codec settings f g nid node (selected settings nid node) (λ to is. same to)
+
+pub hears_in-agree : (codec : RawCodec) (settings : Entries) (f g : ℕ → Signal) (nid : ℕ) (o : Option RawNode) → ((to : ℕ) → f to ≡ g to) → hears_in codec settings f nid o ≡ hears_in codec settings g nid o
+hears_in-agree codec settings f g nid None same = refl
+hears_in-agree codec settings f g nid (Some node) same =
+    ap (λ (signal : Signal). cond (is_input_converter node) (cond (is_off codec settings nid node) Silence (after_output codec settings nid node signal)) Silence)
+    (passed_on-all codec settings f g nid node same)

@@ -10,7 +10,7 @@ use Rattle.route_planner.specs.declared.pin_kind.PinKind.TheVariants.{Digital}
 use Rattle.codec_sound.specs.declared.signals.Signal.{Signal}
 use Rattle.codec_sound.specs.declared.signals.Signal.TheVariants.{Silence, Pair, Altered}
 use Rattle.codec_sound.specs.declared.streams.LinkStream.{LinkStream}
-use Rattle.codec_sound.specs.Amplifiers.{changed, changed_if, after_output}
+use Rattle.codec_sound.specs.Amplifiers.{changed_if, after_output}
 use Rattle.codec_sound.specs.Signals.{takes, is_enabled, is_foreign, converts_otherwise, channel_at, pair_from, converted, made, is_silent_pin, comes_from, selected, pin_hears}
 
 pub converted_disabled : (settings : Entries) (stream : LinkStream) (nid : ℕ) (node : RawNode) → is_enabled settings nid ≡ false → converted Digital settings stream nid node ≡ Silence

@@ -3,6 +3,8 @@ pub mod Ways
 pub mod Outputs
 pub mod Renewing
 pub mod HeardLists
+pub mod Carrying
 pub mod Pairs
+pub mod Listening
 pub mod Digitals
 pub mod Callers

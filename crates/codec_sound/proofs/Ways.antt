@@ -1,7 +1,7 @@
 -- Ways through the mixers and selectors of a well-formed graph are short.
-use Rattle.std.proofs.Common.{◌≡◌, ◌≢◌, ℕ, zero, suc, ◌<◌, ◌≤◌, ◌⊎◌, inl, inr, set, replicate, Bool, true, false, List, [], ◌∷◌, length, get_or, Contains, Option, Some, None, refl, arith}
-use Rattle.std.proofs.lemmas.List.{get_or_past, get_or-set_other, get_or-replicate, length-replicate, length-set}
-use Rattle.std.proofs.lemmas.Bool.{cases_lt, cases_eq}
+use Rattle.std.proofs.Common.{◌≡◌, ℕ, zero, suc, ◌<◌, ◌≤◌, inl, inr, set, replicate, Bool, true, false, List, [], ◌∷◌, length, get_or, Contains, Option, Some, None, refl, arith}
+use Rattle.std.proofs.lemmas.List.{get_or_past, get_or-replicate, length-replicate, length-set}
+use Rattle.std.proofs.lemmas.Bool.{cases_lt}
 use Rattle.codec_graph.specs.declared.raw.RawNode.{RawNode}
 use Rattle.codec_graph.specs.declared.raw.RawCodec.{RawCodec}
 use Rattle.codec_graph.specs.Widget.{node_at}

@@ -4,11 +4,10 @@ use Rattle.codec_graph.specs.declared.raw.RawCodec.{RawCodec}
 use Rattle.codec_graph.specs.Cycles.{inner_list}
 use Rattle.codec_graph.specs.Marks.{IsMarked}
 use Rattle.codec_graph.specs.Settings.{Entries}
-use Rattle.route_planner.specs.declared.pin_kind.PinKind.{PinKind}
 use Rattle.codec_sound.specs.declared.signals.Signal.{Signal}
 use Rattle.codec_sound.specs.declared.signals.Signal.TheVariants.{Silence}
-use Rattle.codec_sound.specs.declared.streams.LinkStream.{LinkStream}
-use Rattle.codec_sound.specs.Signals.{out_as}
+use Rattle.codec_sound.specs.declared.sources.Sources.{Sources}
+use Rattle.codec_sound.specs.Signals.{out_from}
 
 -- connections lead from the node over less than so many mixers and selectors
 unfoldable pub IsShallow : RawCodec → ℕ → ℕ → Type 0
@@ -24,6 +23,6 @@ abbrev pub IsReady : RawCodec → List Bool → ℕ → Type 0
 IsReady codec known nid = (to : ℕ) → Contains (inner_list codec nid) to → IsMarked known to
 
 -- the table has what each marked node gives
-abbrev pub AreRight : PinKind → RawCodec → Entries → LinkStream → List Signal → List Bool → Type 0
-AreRight kind codec settings stream table known = (nid : ℕ) → IsMarked known nid
-    → in_table table nid ≡ out_as kind codec settings stream nid
+abbrev pub AreRight : Sources → RawCodec → Entries → List Signal → List Bool → Type 0
+AreRight sources codec settings table known = (nid : ℕ) → IsMarked known nid
+    → in_table table nid ≡ out_from sources codec settings nid

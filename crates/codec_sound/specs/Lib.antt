@@ -1,5 +1,6 @@
 pub mod Amplifiers
 pub mod Signals
+pub mod Inward
 pub mod Keeping
 pub mod HeardLists
 -- what private functions promise one another

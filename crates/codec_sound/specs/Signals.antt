@@ -1,7 +1,8 @@
 -- The signal that each widget gives and each pin hears while a stream plays, as analog pins hear it and as digital ones
--- do: nothing, one pair of the stream's channels, or something that is not followed. Connections: High Definition Audio
--- 1.0a, 7.1.2; widgets: 7.2.3. That two signals together, a mono widget and one of the other kind make a signal that is
--- not followed, and that no digital stream passes a mixer, is this project's own.
+-- do: nothing, one pair of the stream's channels, or something that is not followed. On the way in what each widget
+-- gives of the sound that pins take in: a signal has the number of a pin in place of that of a pair. Connections: High
+-- Definition Audio 1.0a, 7.1.2; widgets: 7.2.3. That two signals together, a mono widget and one of the other kind make
+-- a signal that is not followed, and that no digital stream passes a mixer, is this project's own.
 use Rattle.std.specs.Prelude.{ℕ, zero, suc, Bool, ◌==◌, ◌&&◌, ◌||◌, not, ◌+◌, ◌*◌, ◌/◌, ◌%◌, ◌<◌, List, [], ◌∷◌, length}
 use Rattle.std.specs.Prelude.{Option, Some, None, nat_lt, slice_get, if◌then◌else◌}
 use Rattle.codec_graph.specs.declared.raw.RawNode.{RawNode}
@@ -18,6 +19,8 @@ use Rattle.stream_format.specs.Words.{format_word}
 use Rattle.codec_sound.specs.declared.signals.Signal.{Signal}
 use Rattle.codec_sound.specs.declared.signals.Signal.TheVariants.{Silence, Pair, Altered}
 use Rattle.codec_sound.specs.declared.streams.LinkStream.{LinkStream}
+use Rattle.codec_sound.specs.declared.sources.Sources.{Sources}
+use Rattle.codec_sound.specs.declared.sources.Sources.TheVariants.{Converters, Pins}
 use Rattle.codec_sound.specs.Amplifiers.{changed_if, after_output, after_input}
 
 -- the stream with this tag and format
@@ -116,42 +119,93 @@ mixed_as Analog codec settings out nid node = changed_if (not (is_stereo node))
     (mixed codec settings out nid node 0 node.list)
 mixed_as Digital codec settings out nid node = Silence
 
--- what a widget makes of the stream and of what the nodes give that it lists: converters, mixers and selectors make a
--- signal, and mono mixers and selectors change it
-abbrev pub made : PinKind → RawCodec → Entries → LinkStream → (ℕ → Signal) → ℕ → RawNode → Signal
-made kind codec settings stream out nid node =
-    if is_output_converter node then converted kind settings stream nid node
-    else (if is_mixer node then mixed_as kind codec settings out nid node
+-- ---- pins on the way in
+
+-- a pin takes sound in where its input is enabled (control bit 5, 7.3.3.13) and it has one (capability bit 5, 7.3.4.9)
+abbrev pub is_listening_pin : Entries → ℕ → RawNode → Bool
+is_listening_pin settings nid node = has_bit (setting_of settings nid control.Pin) 5 && has_bit node.pin_caps 5
+
+-- what a pin makes of the sound that it takes in: its own, through its first input amplifier; mono and digital pins
+-- change it
+abbrev pub taken_in : RawCodec → Entries → ℕ → RawNode → Signal
+taken_in codec settings nid node =
+    if is_listening_pin settings nid node
+    then changed_if (not (is_stereo node) || is_digital node) (after_input codec settings nid node 0 (Pair nid))
+    else Silence
+
+-- ---- where sound begins
+
+-- a signal begins at the output converters, or on the way in at the pins
+abbrev pub is_source : Sources → RawNode → Bool
+is_source (Converters kind stream) node = is_output_converter node
+is_source Pins node = is_pin node
+
+-- the signal that begins there
+abbrev pub source_signal : Sources → RawCodec → Entries → ℕ → RawNode → Signal
+source_signal (Converters kind stream) codec settings nid node = converted kind settings stream nid node
+source_signal Pins codec settings nid node = taken_in codec settings nid node
+
+-- mixers add it as for pins of this kind: on the way in as for analog ones
+abbrev pub source_kind : Sources → PinKind
+source_kind (Converters kind stream) = kind
+source_kind Pins = Analog
+
+-- what a widget makes of it and of what the nodes give that it lists: sources, mixers and selectors make a signal, and
+-- mono mixers and selectors change it
+abbrev pub made_from : Sources → RawCodec → Entries → (ℕ → Signal) → ℕ → RawNode → Signal
+made_from sources codec settings out nid node =
+    if is_source sources node then source_signal sources codec settings nid node
+    else (if is_mixer node then mixed_as (source_kind sources) codec settings out nid node
     else (if is_selector node then changed_if (not (is_stereo node))
     (passed_on codec settings out nid node (selected settings nid node))
     else Silence))
 
 -- what it gives: nothing while it is off, else what it makes, through its output amplifier
-abbrev pub given : PinKind → RawCodec → Entries → LinkStream → (ℕ → Signal) → ℕ → RawNode → Signal
-given kind codec settings stream out nid node =
+abbrev pub given_from : Sources → RawCodec → Entries → (ℕ → Signal) → ℕ → RawNode → Signal
+given_from sources codec settings out nid node =
     if is_off codec settings nid node then Silence else after_output codec settings nid node
-    (made kind codec settings stream out nid node)
+    (made_from sources codec settings out nid node)
 
-abbrev pub given_at : PinKind → RawCodec → Entries → LinkStream → (ℕ → Signal) → ℕ → Option RawNode → Signal
-given_at kind codec settings stream out nid None = Silence
-given_at kind codec settings stream out nid (Some node) = given kind codec settings stream out nid node
+abbrev pub given_from_at : Sources → RawCodec → Entries → (ℕ → Signal) → ℕ → Option RawNode → Signal
+given_from_at sources codec settings out nid None = Silence
+given_from_at sources codec settings out nid (Some node) = given_from sources codec settings out nid node
 
 -- ---- all widgets
 
 -- the step: what each node gives, if the nodes give what `out` says
-unfoldable pub gives_as : PinKind → RawCodec → Entries → LinkStream → (ℕ → Signal) → ℕ → Signal
-gives_as kind codec settings stream out nid = given_at kind codec settings stream out nid (node_at codec nid)
+unfoldable pub gives_from : Sources → RawCodec → Entries → (ℕ → Signal) → ℕ → Signal
+gives_from sources codec settings out nid = given_from_at sources codec settings out nid (node_at codec nid)
 
 -- what each node gives of what comes over less than so many connections
-abbrev pub within : PinKind → RawCodec → Entries → LinkStream → ℕ → ℕ → Signal
-within kind codec settings stream zero nid = Silence
-within kind codec settings stream (suc connections) nid = gives_as kind codec settings stream
-    (within kind codec settings stream connections) nid
+abbrev pub within_from : Sources → RawCodec → Entries → ℕ → ℕ → Signal
+within_from sources codec settings zero nid = Silence
+within_from sources codec settings (suc connections) nid =
+    gives_from sources codec settings (within_from sources codec settings connections) nid
 
 -- what each node gives: no way through the mixers and selectors of a well-formed graph is as long. It is the one that
 -- fits the step at every node, as the laws say.
-unfoldable pub out_as : PinKind → RawCodec → Entries → LinkStream → ℕ → Signal
-out_as kind codec settings stream nid = within kind codec settings stream 256 nid
+unfoldable pub out_from : Sources → RawCodec → Entries → ℕ → Signal
+out_from sources codec settings nid = within_from sources codec settings 256 nid
+
+-- ---- while a stream plays, for pins of a kind
+
+abbrev pub made : PinKind → RawCodec → Entries → LinkStream → (ℕ → Signal) → ℕ → RawNode → Signal
+made kind codec settings stream = made_from (Converters kind stream) codec settings
+
+abbrev pub given : PinKind → RawCodec → Entries → LinkStream → (ℕ → Signal) → ℕ → RawNode → Signal
+given kind codec settings stream = given_from (Converters kind stream) codec settings
+
+abbrev pub given_at : PinKind → RawCodec → Entries → LinkStream → (ℕ → Signal) → ℕ → Option RawNode → Signal
+given_at kind codec settings stream = given_from_at (Converters kind stream) codec settings
+
+abbrev pub gives_as : PinKind → RawCodec → Entries → LinkStream → (ℕ → Signal) → ℕ → Signal
+gives_as kind codec settings stream = gives_from (Converters kind stream) codec settings
+
+abbrev pub within : PinKind → RawCodec → Entries → LinkStream → ℕ → ℕ → Signal
+within kind codec settings stream = within_from (Converters kind stream) codec settings
+
+abbrev pub out_as : PinKind → RawCodec → Entries → LinkStream → ℕ → Signal
+out_as kind codec settings stream = out_from (Converters kind stream) codec settings
 
 -- for analog pins
 abbrev pub gives : RawCodec → Entries → LinkStream → (ℕ → Signal) → ℕ → Signal

@@ -7,6 +7,7 @@ ghost use Rattle.codec_sound.specs.Keeping as spec;
 
 use crate::pins::hears;
 use crate::signals::{Signal, Table};
+use crate::sources::Sources;
 use crate::streams::LinkStream;
 use crate::table::outputs;
 use codec_graph::{Graph, RawCodec, Settings};
@@ -201,7 +202,8 @@ fn work_out(
 {
     match format {
         Some(format) => {
-            let table = outputs(kind, graph, settings, LinkStream::new(tag, format));
+            let sources = Sources::Converters(kind, LinkStream::new(tag, format));
+            let table = outputs(sources, graph, settings);
             hear_all(kind, graph.raw(), settings, &table, pins);
         }
         None => silence_all(pins),

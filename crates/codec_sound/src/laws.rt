@@ -24,6 +24,8 @@ ghost use Rattle.stream_format.specs.declared.format.Rate.TheVariants.{R48};
 ghost use Rattle.stream_format.specs.declared.format.Bits.TheVariants.{B16};
 ghost use Rattle.codec_sound.specs.Signals.{IsAmong, gives, gives_as, out, out_as, signal_as, signal_of, is_enabled};
 ghost use Rattle.codec_sound.specs.Signals.{is_foreign, converted, made, pin_hears};
+ghost use Rattle.codec_sound.specs.declared.in_heard.InHeard.TheVariants.{Pin};
+ghost use Rattle.codec_sound.specs.Inward.{in_gives, in_out, in_signal_of, IsListening, IsHearing};
 ghost use Rattle.codec_sound.specs.Keeping.{signal_by, signal_by_as};
 ghost use Rattle.codec_sound.specs.HeardLists.{block_at, block_size, sample_in, item_of, heard_in, signal_with};
 ghost use Rattle.codec_sound.specs.HeardLists.{frame_items, frame_items_as, heard, heard_as, signal_with_as};
@@ -144,4 +146,22 @@ pub fn digital_signals_need_digital_nodes()
         → (not (is_stereo node) || is_foreign Digital node) ≡ true
         → (pin_hears Digital codec settings given nid node ≡ Silence)
         ⊎ (pin_hears Digital codec settings given nid node ≡ Altered) }
+{}
+
+/// What the nodes of a well-formed graph give on the way in fits the step at every node, and nothing else does.
+pub fn inward_signals_fit_the_step()
+    ensures fits { (codec : RawCodec) (settings : Entries) → IsWellFormed codec → (nid : ℕ)
+        → in_out codec settings nid ≡ in_gives codec settings (in_out codec settings) nid }
+    ensures only { (codec : RawCodec) (settings : Entries) (other : ℕ → Signal) → IsWellFormed codec
+        → ((nid : ℕ) → other nid ≡ in_gives codec settings other nid) → (nid : ℕ)
+        → other nid ≡ in_out codec settings nid }
+{}
+
+/// A converter that hears a pin is an input converter, and it and the pin are on. The pin is an analog one of two
+/// channels, which has an input that is enabled.
+pub fn converters_hear_enabled_pins()
+    ensures pin { (codec : RawCodec) (settings : Entries) (converter nid : ℕ)
+        → in_signal_of codec settings converter ≡ Pin nid → IsListening codec settings nid }
+    ensures converter { (codec : RawCodec) (settings : Entries) (converter nid : ℕ)
+        → in_signal_of codec settings converter ≡ Pin nid → IsHearing codec settings converter }
 {}

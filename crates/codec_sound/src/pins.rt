@@ -5,6 +5,7 @@ ghost use Rattle.codec_sound.specs.Depths.{in_table};
 
 use crate::amplifiers::{after_output, setting};
 use crate::signals::{Signal, Table};
+use crate::sources::Sources;
 use crate::streams::LinkStream;
 use crate::table::outputs;
 use crate::widgets::{is_foreign, is_off, selected};
@@ -54,7 +55,8 @@ fn signal_as(
 ) -> Signal
     ensures { result ≡ spec.signal_as kind graph.now settings.now (spec.stream_of tag format) pin }
 {
-    let table = outputs(kind, graph, settings, LinkStream::new(tag, format));
+    let sources = Sources::Converters(kind, LinkStream::new(tag, format));
+    let table = outputs(sources, graph, settings);
     hears(kind, graph.raw(), settings, &table, pin)
 }
 

@@ -3,12 +3,14 @@ ghost use Rattle.std.specs.Prelude.{◌≡◌};
 ghost use Rattle.codec_sound.specs.Amplifiers as amplifiers;
 ghost use Rattle.codec_sound.specs.Signals as spec;
 
-/// What a widget gives or a pin hears of a stream. This project's own.
+/// What a widget gives or a pin hears of a stream, and on the way in what a widget gives of the sound that pins take
+/// in. This project's own.
 #[derive(Clone, Copy, Debug, PartialEq, Eq)]
 pub enum Signal {
     /// Nothing.
     Silence,
-    /// The pair of channels with this number, from 0, as it stands in the stream.
+    /// The pair of channels with this number, from 0, as it stands in the stream. On the way in the sound of the pin
+    /// with this node identifier, as the pin is given it.
     Pair(u8),
     /// Something that is not followed: a pair at another gain, on one side, as digital data, or several together.
     Altered,

@@ -6,71 +6,63 @@ ghost use Rattle.codec_graph.specs.Marks.{IsMarked};
 ghost use Rattle.codec_sound.specs.Depths.{in_table, IsReady, AreRight};
 
 use crate::signals::{NAMED, Signal, Table};
-use crate::streams::LinkStream;
+use crate::sources::Sources;
 use crate::widgets::gives;
 use codec_graph::{Graph, NODE_IDENTIFIERS, RawCodec, Settings};
-use route_planner::PinKind;
 
 /// Which nodes' signals are worked out.
 type Marks = [bool; NAMED];
 
-/// What each node gives for pins of the kind.
-pub(crate) fn outputs(
-    kind: PinKind,
-    graph: &Graph,
-    settings: &Settings,
-    stream: LinkStream,
-) -> Table
-    ensures { (nid : ℕ) → in_table result nid ≡ spec.out_as kind graph.now settings.now stream nid }
+/// What each node gives.
+pub(crate) fn outputs(sources: Sources, graph: &Graph, settings: &Settings) -> Table
+    ensures { (nid : ℕ) → in_table result nid ≡ spec.out_from sources graph.now settings.now nid }
 {
     let codec = graph.raw();
     let mut table = [Signal::Silence; NAMED];
     let mut known = [false; NAMED];
     // No way through mixers and selectors is longer than there are nodes, so each node is ready in one of these rounds.
     for _round in 0..NODE_IDENTIFIERS + 1 {
-        work_out_ready(kind, codec, settings, stream, &mut table, &mut known);
+        work_out_ready(sources, codec, settings, &mut table, &mut known);
     }
     table
 }
 
 /// Works out what each node gives that lists only nodes of which this is known.
 fn work_out_ready(
-    kind: PinKind,
+    sources: Sources,
     codec: &RawCodec,
     settings: &Settings,
-    stream: LinkStream,
     table: &mut Table,
     known: &mut Marks,
 )
     requires well_formed { IsWellFormed codec.now }
-    requires right { AreRight kind codec.now settings.now stream table.old known.old }
-    ensures right { AreRight kind codec.now settings.now stream table.new known.new }
+    requires right { AreRight sources codec.now settings.now table.old known.old }
+    ensures right { AreRight sources codec.now settings.now table.new known.new }
     ensures further { (nid : ℕ) → nid < 256 → IsReady codec.now known.old nid → IsMarked known.new nid }
 {
     for nid in 0..NAMED {
-        work_out(kind, codec, settings, stream, nid as u8, table, known);
+        work_out(sources, codec, settings, nid as u8, table, known);
     }
 }
 
 /// Works out what the node gives, where it is not known and the node lists only nodes of which it is.
 fn work_out(
-    kind: PinKind,
+    sources: Sources,
     codec: &RawCodec,
     settings: &Settings,
-    stream: LinkStream,
     nid: u8,
     table: &mut Table,
     known: &mut Marks,
 )
     requires well_formed { IsWellFormed codec.now }
-    requires right { AreRight kind codec.now settings.now stream table.old known.old }
-    ensures right { AreRight kind codec.now settings.now stream table.new known.new }
+    requires right { AreRight sources codec.now settings.now table.old known.old }
+    ensures right { AreRight sources codec.now settings.now table.new known.new }
     ensures kept { (other : ℕ) → IsMarked known.old other → IsMarked known.new other }
     ensures here { IsReady codec.now known.old nid → IsMarked known.new nid }
 {
     let place = usize::from(nid);
     if !known[place] && is_ready(codec, known, nid) {
-        table[place] = gives(kind, codec, settings, stream, table, nid);
+        table[place] = gives(sources, codec, settings, table, nid);
         known[place] = true;
     }
 }

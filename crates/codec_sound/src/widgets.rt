@@ -6,12 +6,19 @@ ghost use Rattle.codec_sound.specs.Depths.{in_table};
 
 use crate::amplifiers::{after_input, after_output, setting};
 use crate::signals::{Signal, Table};
+use crate::sources::Sources;
 use crate::streams::LinkStream;
 use codec_graph::{Control, RawCodec, RawNode, Settings, bits_of, has_bit};
 use route_planner::PinKind;
 
 /// The bit of a digital converter's control that enables its output: DigEn (HDA 1.0a, 7.3.3.9).
 const DIGITAL_ENABLE: u32 = 0;
+
+/// The bit of the pin control that enables its input (HDA 1.0a, 7.3.3.13).
+const INPUT_ENABLE: u32 = 5;
+
+/// The bit of the pin capabilities that says that it has an input (HDA 1.0a, 7.3.4.9).
+const INPUT_CAPABLE: u32 = 5;
 
 /// Whether the function group or the widget is in another power state than 0, fully on (HDA 1.0a, 7.3.3.10).
 pub(crate) fn is_off(codec: &RawCodec, settings: &Settings, nid: u8, node: &RawNode) -> bool
@@ -22,7 +29,7 @@ pub(crate) fn is_off(codec: &RawCodec, settings: &Settings, nid: u8, node: &RawN
 }
 
 /// The tag of the stream that a converter takes, 0 where it takes none (HDA 1.0a, 7.3.3.11).
-fn tag_at(settings: &Settings, nid: u8) -> u32
+pub(crate) fn tag_at(settings: &Settings, nid: u8) -> u32
     ensures { result ≡ spec.tag_at settings.now nid }
 {
     bits_of(setting(settings, nid, Control::Stream), 4, 4)
@@ -168,7 +175,7 @@ pub(crate) fn selected(settings: &Settings, nid: u8, node: &RawNode) -> Option<u
 }
 
 /// What a selector makes of the connection that it selects.
-fn passed_on(
+pub(crate) fn passed_on(
     codec: &RawCodec,
     settings: &Settings,
     table: &Table,
@@ -189,22 +196,76 @@ fn passed_on(
     }
 }
 
-/// What the widget makes of the stream and of the signals that the nodes give which it lists.
-fn made(
-    kind: PinKind,
+/// Whether a pin takes sound in: whether its input is enabled, and it has one.
+fn is_listening(settings: &Settings, nid: u8, node: &RawNode) -> bool
+    ensures { result ≡ spec.is_listening_pin settings.now nid node.now }
+{
+    has_bit(setting(settings, nid, Control::Pin), INPUT_ENABLE)
+        && has_bit(node.pin_caps, INPUT_CAPABLE)
+}
+
+/// What a pin makes of the sound that it takes in.
+fn taken_in(codec: &RawCodec, settings: &Settings, nid: u8, node: &RawNode) -> Signal
+    ensures { result ≡ spec.taken_in codec.now settings.now nid node.now }
+{
+    if !is_listening(settings, nid, node) {
+        return Signal::Silence;
+    }
+    let signal = after_input(codec, settings, nid, node, 0, Signal::Pair(nid));
+    signal.changed_if(!node.is_stereo() || node.is_digital())
+}
+
+/// Whether a signal begins at the widget.
+fn is_source(sources: Sources, node: &RawNode) -> bool
+    ensures { result ≡ spec.is_source sources node.now }
+{
+    match sources {
+        Sources::Converters(..) => node.is_output_converter(),
+        Sources::Pins => node.is_pin(),
+    }
+}
+
+/// The signal that begins at the widget.
+fn source_signal(
+    sources: Sources,
     codec: &RawCodec,
     settings: &Settings,
-    stream: LinkStream,
+    nid: u8,
+    node: &RawNode,
+) -> Signal
+    ensures { result ≡ spec.source_signal sources codec.now settings.now nid node.now }
+{
+    match sources {
+        Sources::Converters(kind, stream) => converted(kind, settings, stream, nid, node),
+        Sources::Pins => taken_in(codec, settings, nid, node),
+    }
+}
+
+/// The kind of the pins for which mixers add signals.
+fn source_kind(sources: Sources) -> PinKind
+    ensures { result ≡ spec.source_kind sources }
+{
+    match sources {
+        Sources::Converters(kind, _) => kind,
+        Sources::Pins => PinKind::Analog,
+    }
+}
+
+/// What the widget makes of what begins at it and of the signals that the nodes give which it lists.
+fn made(
+    sources: Sources,
+    codec: &RawCodec,
+    settings: &Settings,
     table: &Table,
     nid: u8,
     node: &RawNode,
 ) -> Signal
-    ensures { result ≡ spec.made kind codec.now settings.now stream (in_table table.now) nid node.now }
+    ensures { result ≡ spec.made_from sources codec.now settings.now (in_table table.now) nid node.now }
 {
-    if node.is_output_converter() {
-        converted(kind, settings, stream, nid, node)
+    if is_source(sources, node) {
+        source_signal(sources, codec, settings, nid, node)
     } else if node.is_mixer() {
-        mixed_as(kind, codec, settings, table, nid, node)
+        mixed_as(source_kind(sources), codec, settings, table, nid, node)
     } else if node.is_selector() {
         passed_on(codec, settings, table, nid, node).changed_if(!node.is_stereo())
     } else {
@@ -213,16 +274,15 @@ fn made(
 }
 
 /// What the node gives, if the nodes that it lists give what the table says.
-#[tactic(auto, unfolding(crate::specs::Signals::gives_as))]
+#[tactic(auto, unfolding(crate::specs::Signals::gives_from))]
 pub(crate) fn gives(
-    kind: PinKind,
+    sources: Sources,
     codec: &RawCodec,
     settings: &Settings,
-    stream: LinkStream,
     table: &Table,
     nid: u8,
 ) -> Signal
-    ensures { result ≡ spec.gives_as kind codec.now settings.now stream (in_table table.now) nid }
+    ensures { result ≡ spec.gives_from sources codec.now settings.now (in_table table.now) nid }
 {
     let Some(node) = codec.node(nid) else {
         return Signal::Silence;
@@ -230,6 +290,6 @@ pub(crate) fn gives(
     if is_off(codec, settings, nid, node) {
         return Signal::Silence;
     }
-    let signal = made(kind, codec, settings, stream, table, nid, node);
+    let signal = made(sources, codec, settings, table, nid, node);
     after_output(codec, settings, nid, node, signal)
 }

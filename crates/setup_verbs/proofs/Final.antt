@@ -17,7 +17,7 @@ use Rattle.verb_codes.specs.Words.{has_bit}
 use Rattle.stream_format.specs.declared.format.Format.{Format}
 use Rattle.codec_sound.specs.declared.signals.Signal.{Signal}
 use Rattle.codec_sound.specs.declared.signals.Signal.TheVariants.{Silence, Pair}
-use Rattle.codec_sound.specs.Signals.{stream_of, is_off, is_foreign, given_at, gives_as, out_as, pin_hears, hears, signal_as}
+use Rattle.codec_sound.specs.Signals.{stream_of, is_off, is_foreign, given_at, gives_from, out_as, pin_hears, hears, signal_as}
 use Rattle.codec_sound.proofs.Callers.{out-gives}
 use Rattle.route_planner.specs.declared.pin_kind.PinKind.{PinKind}
 use Rattle.route_planner.specs.declared.pin_kind.PinKind.TheVariants.{Analog, Digital}
@@ -107,7 +107,7 @@ module _ (kind : PinKind) (codec : RawCodec) (plan : Plan) (format : Format) (ta
   -- a mixer or selector of a route gives what its connection gives
   inner_step : (nid index next : ℕ) → role_of plan nid ≡ Passed index → connection codec nid index ≡ Some next → passes is_inner (node_at codec nid) ≡ true
       → out_as kind codec (settings_after codec settings (setup_verbs_as kind codec plan format tag)) (stream_of tag format) nid ≡ out_as kind codec (settings_after codec settings (setup_verbs_as kind codec plan format tag)) (stream_of tag format) next
-  unfolding gives_as
+  unfolding gives_from
   inner_step nid index next role leads inner =
       let h = is_hop nid index next role leads in
       let S = settings_after codec settings (setup_verbs_as kind codec plan format tag) in
@@ -128,7 +128,7 @@ module _ (kind : PinKind) (codec : RawCodec) (plan : Plan) (format : Format) (ta
 
   -- the converter gives the pair
   end_gives : (nid pair : ℕ) → role_of plan nid ≡ Source pair → out_as kind codec (settings_after codec settings (setup_verbs_as kind codec plan format tag)) (stream_of tag format) nid ≡ Pair pair
-  unfolding gives_as
+  unfolding gives_from
   end_gives nid pair role =
       let w : IsSourceWell kind codec format.channels nid pair = subst (λ r. IsUsedWell kind codec format.channels nid r) role (role_well kind codec format plan nid is) in
       let p = passing (can_carry kind) (node_at codec nid) w.carried in

@@ -21,13 +21,14 @@ use std::process::ExitCode;
 use test_cases::{Cases, run_cases, text_of};
 
 /// The files of cases.
-const FILES: [&str; 9] = [
+const FILES: [&str; 10] = [
     "codecs.txt",
     "formats.txt",
     "walks.txt",
     "setups.txt",
     "signals.txt",
     "digital.txt",
+    "inputs.txt",
     "polls.txt",
     "streams.txt",
     "lies.txt",
@@ -58,6 +59,8 @@ impl Cases for Calls {
             "digital_plan" => digital_pins::tell_plan(alloc, rest),
             "digital_setup" => digital_pins::tell_setup(alloc, rest),
             "hear_digital" => digital_pins::tell_heard(alloc, rest),
+            "hear_in" => signals::tell_inward(alloc, rest),
+            "taking" => signals::tell_taking(alloc, rest),
             "loud" => signals::tell_loud(alloc, rest),
             "greatest" => signals::tell_greatest(alloc, rest),
             "controls" => signals::tell_controls(alloc, rest),

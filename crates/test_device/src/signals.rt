@@ -1,9 +1,10 @@
-//! What the pins of codecs hear: after some words, and once their codec was set up, whatever it was set to before.
+//! What the pins of codecs hear: after some words, and once their codec was set up, whatever it was set to before; and
+//! what input converters hear.
 ghost use Rattle.std.specs.Prelude.{◌≤◌};
 
 use codec_graph::Graph;
 use codec_nodes::Codec;
-use codec_sound::{Kept, Signal, digital_signal, signal};
+use codec_sound::{Kept, Signal, digital_signal, in_signal, is_taking, signal};
 use route_planner::{Bits, Format, Rate, plan};
 use route_setup::verbs;
 use std::alloc::{AllocError, Global};
@@ -67,8 +68,8 @@ fn format_of(channels: &[u8]) -> Format {
     }
 }
 
-/// A pin's node identifier.
-fn pin_of(word: &[u8]) -> u8 {
+/// A number of a byte: the node identifier of a pin or a converter, or a tag.
+fn byte_of(word: &[u8]) -> u8 {
     u8::try_from(number_of(word)).unwrap_or(0)
 }
 
@@ -104,7 +105,7 @@ pub fn heard_after(
         return Ok(None);
     };
     let (graph, settings) = (codec.graph(), codec.settings());
-    let (pin, format) = (pin_of(pin), format_of(b"2"));
+    let (pin, format) = (byte_of(pin), format_of(b"2"));
     Ok(Some((
         digital_signal(graph, settings, pin, TAG, format),
         signal(graph, settings, pin, TAG, format),
@@ -122,11 +123,42 @@ pub fn tell(alloc: Global, words: &[Vec<u8>]) -> Result<String, AllocError> {
     let heard = signal(
         codec.graph(),
         codec.settings(),
-        pin_of(pin),
+        byte_of(pin),
         TAG,
         format_of(b"2"),
     );
     format!(in alloc; "{heard:?}")
+}
+
+/// What an input converter hears after the codec of the file took some words.
+pub fn tell_inward(alloc: Global, words: &[Vec<u8>]) -> Result<String, AllocError> {
+    let [file, converter, given @ ..] = words else {
+        return format!(in alloc; "no codec");
+    };
+    let Some(codec) = after(alloc, file, given)? else {
+        return format!(in alloc; "refused");
+    };
+    let heard = in_signal(codec.graph(), codec.settings(), byte_of(converter));
+    format!(in alloc; "{heard:?}")
+}
+
+/// Whether a converter takes the stream on the way in with a tag and a format word, after the codec of the file took
+/// some words.
+pub fn tell_taking(alloc: Global, words: &[Vec<u8>]) -> Result<String, AllocError> {
+    let [file, converter, tag, word, given @ ..] = words else {
+        return format!(in alloc; "no codec");
+    };
+    let Some(codec) = after(alloc, file, given)? else {
+        return format!(in alloc; "refused");
+    };
+    let taking = is_taking(
+        codec.graph(),
+        codec.settings(),
+        byte_of(converter),
+        byte_of(tag),
+        u16::try_from(number_of(word)).unwrap_or(0),
+    );
+    format!(in alloc; "{taking}")
 }
 
 /// What is kept of a pin after the codec of the file took some words, and once it was renewed for no stream; and how
@@ -138,7 +170,7 @@ pub fn tell_kept(alloc: Global, words: &[Vec<u8>]) -> Result<String, AllocError>
     let Some(codec) = after(alloc, file, given)? else {
         return format!(in alloc; "refused");
     };
-    let pin = pin_of(pin);
+    let pin = byte_of(pin);
     let format = Some(format_of(b"2"));
     let pins = vec![in alloc; pin]?;
     let mut kept = Kept::new(alloc, codec.graph(), codec.settings(), pins, TAG, format)?;
@@ -188,7 +220,7 @@ fn push_signals(
         let heard = signal(
             codec.graph(),
             codec.settings(),
-            pin_of(pin),
+            byte_of(pin),
             SET_UP_TAG,
             format,
         );
@@ -240,7 +272,7 @@ pub fn tell_controls(alloc: Global, words: &[Vec<u8>]) -> Result<String, AllocEr
     set_all(&mut codec, &GREATEST);
     let mut text = String::new(alloc);
     for node in nodes {
-        let nid = pin_of(node);
+        let nid = byte_of(node);
         write!(text, "\n  {nid:02x}")?;
         push_controls(&mut text, codec.settings(), nid)?;
     }

@@ -7,7 +7,7 @@ use Rattle.codec_sound.proofs.table.outputs.Goals as goal
 pub loop-round-init : goal.loop-round-init
 loop-round-init c = record {
   long = length-replicate 256 Silence;
-  right = right-none c.args.kind c.raw-codec.result.now c.args.settings.now c.args.stream (replicate 256 Silence);
+  right = right-none c.args.sources c.raw-codec.result.now c.args.settings.now (replicate 256 Silence);
   known = λ nid. known-none c.raw-codec.result.now (replicate 256 false) nid;
 }
 
@@ -21,4 +21,4 @@ loop-round-preserved c = record {
 pub returns : goal.returns
 returns c =
     rw (← c.raw-codec.ensures.value)
-    (right-all c.args.kind c.raw-codec.result.now c.args.settings.now c.args.stream c.loop-round.table c.loop-round.known c.loop-round._round (rw c.raw-codec.ensures.value c.raw-codec.ensures.well_formed) c.loop-round.invariant.long c.loop-round-test.false c.loop-round.auto._round-end c.loop-round.invariant.right c.loop-round.invariant.known)
+    (right-all c.args.sources c.raw-codec.result.now c.args.settings.now c.loop-round.table c.loop-round.known c.loop-round._round (rw c.raw-codec.ensures.value c.raw-codec.ensures.well_formed) c.loop-round.invariant.long c.loop-round-test.false c.loop-round.auto._round-end c.loop-round.invariant.right c.loop-round.invariant.known)

@@ -7,6 +7,6 @@ use Rattle.codec_sound.proofs.table.outputs.Given as goal
 abbrev pub invariant-loop-round : goal.invariant-loop-round
 invariant-loop-round l = record {
   long : length l.table ≡ 256;
-  right : AreRight l.kind l.codec l.settings l.stream l.table l.known;
+  right : AreRight l.sources l.codec l.settings l.table l.known;
   known : (nid : ℕ) → nid < 256 → IsShallow l.codec l._round nid → IsMarked l.known nid;
 }
