@@ -14,6 +14,8 @@ use Rattle.route_planner.proofs.Bounds as bounds
 use Rattle.route_planner.proofs.PlanParts as parts
 -- a graph has one plan
 pub use Rattle.route_planner.proofs.OnlyPlan.{only_plan}
+-- and one for an input
+pub use Rattle.route_planner.proofs.OnlyInput.{only_input_plan}
 -- what holds of a number that is there
 pub use Rattle.route_planner.proofs.Bridge.{match_some}
 -- the entries of a plan are admissible

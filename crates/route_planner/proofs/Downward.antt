@@ -102,10 +102,10 @@ IsOnTheWay-step inner next end levels top pin hops from level step small right o
     }
 
 -- at level 0 the walk ends
-pub IsLeastWay-end : (inner : ℕ → Bool) (next : ℕ → ℕ → Option ℕ) (end : ℕ → Bool) (levels : List ℕ) (top pin : ℕ) (hops : List Hop) (from level : ℕ) (step : Step) → AreLevels inner next end levels top → IsOnTheWay inner next end levels top pin hops from level → IsFirstStep (next from) levels level step → level ≡ 0 → IsLeastWay inner next end pin record { hops = hops ++ record { nid = from; index = step.index } ∷ []; converter = step.to }
+pub IsLeastWay-end : (inner : ℕ → Bool) (next : ℕ → ℕ → Option ℕ) (end : ℕ → Bool) (levels : List ℕ) (top pin : ℕ) (hops : List Hop) (from level : ℕ) (step : Step) → AreLevels inner next end levels top → IsOnTheWay inner next end levels top pin hops from level → IsFirstStep (next from) levels level step → level ≡ 0 → IsLeastWay inner next end pin record { hops = hops ++ record { nid = from; index = step.index } ∷ []; end = step.to }
 IsLeastWay-end inner next end levels top pin hops from level step right on first none =
     let hop : Hop = record { nid = from; index = step.index } in
     record {
-      way = on.joins (hop ∷ []) step.to (refl, (step.to, first.leads, (refl, right.are_ends step.to (first.arrives ∙ none))));
+      leads = on.joins (hop ∷ []) step.to (refl, (step.to, first.leads, (refl, right.are_ends step.to (first.arrives ∙ none))));
       least = on.keeps (hop ∷ []) (omega arith) (least_step inner next end levels top from level step right on.low first on.nearest [] (λ some end' w e. tt));
     }

@@ -1,7 +1,7 @@
--- Levels while the ends get theirs, one node after another.
-use Rattle.std.proofs.Common.{◌≡◌, ◌≢◌, ◌<◌, ◌+◌, ℕ, Bool, true, false, List, length, set, replicate, refl, sym, subst, ◌∙◌, inl, inr, arith}
+-- Levels while the ends get theirs, one node after another, and where there is one end.
+use Rattle.std.proofs.Common.{◌≡◌, ◌≢◌, ◌<◌, ◌==◌, ◌+◌, ℕ, Bool, true, false, List, length, set, replicate, refl, sym, subst, ◌∙◌, inl, inr, arith}
 use Rattle.std.proofs.lemmas.List.{get_or-set_same, get_or-set_other, get_or-replicate, get_or_past, length-replicate, length-set}
-use Rattle.std.proofs.lemmas.Bool.{cases_eq, cases_lt, false≢true}
+use Rattle.std.proofs.lemmas.Bool.{cases_eq, cases_lt, eqb-true, eq-eqb, false≢true}
 use Rattle.route_planner.specs.Search.{level_of}
 use Rattle.route_planner.specs.Levels.{AreEndLevels}
 
@@ -55,3 +55,15 @@ AreEndLevels-all end levels nid before below = record {
   at_ends = λ other e. before.at_ends other (below other e) e;
   elsewhere = before.elsewhere;
 }
+
+-- one node alone has a level
+pub AreEndLevels-one : (n pin : ℕ) → pin < n → AreEndLevels (λ nid. nid == pin) (set (replicate n 65535) pin 0)
+AreEndLevels-one n pin within =
+    let here : level_of (set (replicate n 65535) pin 0) pin ≡ 0 = get_or-set_same (replicate n 65535) pin 0 65535 (omega (arith, length-replicate {A = ℕ} n 65535)) in
+    record {
+      at_ends = λ nid e. rw (eqb-true nid pin e) here;
+      elsewhere = λ nid h. elim (cases_eq nid pin) [
+        | inl same ↦ (rw same here, eq-eqb nid pin same)
+        | inr ne ↦ absurd (h (get_or-set_other (replicate n 65535) pin nid 0 65535 ne ∙ all_far n nid))
+      ];
+    }

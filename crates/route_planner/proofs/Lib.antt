@@ -19,5 +19,9 @@ pub mod Unblocked
 pub mod OneWay
 pub mod OnlyPlan
 pub mod PlanParts
+pub mod InputPaths
+pub mod LeastInputs
+pub mod FirstInputs
+pub mod OnlyInput
 -- what the proofs of other crates cite
 pub mod Callers

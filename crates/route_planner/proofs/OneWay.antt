@@ -1,5 +1,5 @@
 -- Each entry of a plan with one pair of channels leaves the routes alike, and is not blocked.
-use Rattle.std.proofs.Common.{◌≡◌, ◌<◌, ◌==◌, ◌&&◌, ◌⊎◌, ◌%◌, ◌/◌, ℕ, Bool, true, false, not, List, [], ◌∷◌, ◌++◌, map, take, drop, length, get_or, Some, None, refl, sym, ap, subst, ◌∙◌, inl, inr, append-nil, append_assoc, arith}
+use Rattle.std.proofs.Common.{◌≡◌, ◌<◌, ◌⊎◌, ◌%◌, ◌/◌, ℕ, Bool, true, false, List, [], ◌∷◌, ◌++◌, map, take, drop, length, get_or, Some, None, refl, sym, ap, subst, ◌∙◌, inl, inr, append-nil, append_assoc, arith}
 use Rattle.std.specs.Prelude.{All, Contains, if◌then◌else◌}
 use Rattle.std.specs.List.{list_all}
 use Rattle.std.proofs.Math.Nat.{mod-one}
@@ -12,6 +12,7 @@ use Rattle.codec_graph.specs.declared.raw.RawNode.{RawNode}
 use Rattle.codec_graph.specs.declared.raw.RawCodec.{RawCodec}
 use Rattle.codec_graph.specs.Widget.{node_at, is_inner, is_pin}
 use Rattle.route_planner.specs.Kinds.{is_candidate_as, is_candidate_at_as}
+use Rattle.route_planner.specs.declared.direction.Direction.TheVariants.{Out}
 use Rattle.route_planner.specs.declared.pin_kind.PinKind.{PinKind}
 use Rattle.route_planner.specs.declared.pin_kind.PinKind.TheVariants.{Analog, Digital}
 use Rattle.route_planner.specs.declared.routes.Hop.{Hop}
@@ -37,7 +38,7 @@ use Rattle.route_planner.proofs.Unblocked.{AreOneWay, AreOneWay-none, open_path_
 meets_once : (kind : PinKind) (codec : RawCodec) (format : Format) (earlier : List PinPlan) (pair pin : ℕ) (route : Route) → IsBounded codec → IsOutcomeAs kind codec format earlier pair pin (outcome.Route route) → (j k : ℕ) (d : Hop) → j < k → k < length route.hops → (get_or route.hops j d).nid ≡ (get_or route.hops k d).nid → is_inner_at codec (get_or route.hops k d).nid ≡ true → ⊥
 meets_once kind codec format earlier pair pin route bounded is j k d less within same inner =
     let way = way_from_open_path kind codec format (table_of earlier) earlier pair pin bounded (AreLefts-table earlier) route is.0 in
-    let cut = cut_way_out (is_inner_at codec) (target kind codec (table_of earlier)) (is_end kind codec format earlier pair) route.hops j k d pin route.converter less within same inner way in
+    let cut = cut_way_out (is_inner_at codec) (target (Out kind) codec (table_of earlier)) (is_end kind codec format earlier pair) route.hops j k d pin route.converter less within same inner way in
     let short : Route = record { hops = take j route.hops ++ drop k route.hops; converter = route.converter } in
     let path = open_path_from_way kind codec format (table_of earlier) earlier pair pin bounded (AreLefts-table earlier) short cut.0 in
     elim (is.1 short path) [ inl less ↦ omega (arith, cut.1) | inr same ↦ omega (arith, cut.1, same.0) ]

@@ -22,7 +22,7 @@ before a b s t m n = nat_lt a b || (a == b && (nat_lt s t || (s == t && nat_lt m
 not_both : (a b s t m n : ℕ) → before a b s t m n ≡ true → before b a t s n m ≡ true → ⊥
 not_both a b s t m n one other = grind (arith, nat_tests)
 
-asymmetric : (codec : RawCodec) (pin other : ℕ) → comes_before codec pin other ≡ true → comes_before codec other pin ≡ true → ⊥
+pub asymmetric : (codec : RawCodec) (pin other : ℕ) → comes_before codec pin other ≡ true → comes_before codec other pin ≡ true → ⊥
 asymmetric codec pin other =
     not_both (association_of (node_at codec pin)) (association_of (node_at codec other)) (sequence_of (node_at codec pin)) (sequence_of (node_at codec other)) pin other
 
@@ -85,7 +85,7 @@ same_outcome kind codec format earlier pair pin outcome.NoPath outcome.NoPath is
 abbrev entry_of : ℕ → ℕ → Outcome → PinPlan
 entry_of pin pair o = record { pin = pin; pair = pair; outcome = o }
 
-same_entry : (one other : PinPlan) → one.pin ≡ other.pin → one.pair ≡ other.pair → one.outcome ≡ other.outcome → one ≡ other
+pub same_entry : (one other : PinPlan) → one.pin ≡ other.pin → one.pair ≡ other.pair → one.outcome ≡ other.outcome → one ≡ other
 same_entry one other pin pair o = let whole : entry_of one.pin one.pair one.outcome ≡ entry_of other.pin other.pair other.outcome = cc in whole
 
 abbrev pins_of : List PinPlan → List ℕ

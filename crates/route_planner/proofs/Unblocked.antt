@@ -7,6 +7,7 @@ use Rattle.std.proofs.lemmas.List.Elements.{All-nil, Contains-get_or, Contains-a
 use Rattle.std.proofs.lemmas.List.Sums.{list_all-from_AllPass}
 use Rattle.codec_graph.specs.declared.raw.RawCodec.{RawCodec}
 use Rattle.codec_graph.specs.Widget.{node_at, is_inner}
+use Rattle.route_planner.specs.declared.direction.Direction.TheVariants.{Out}
 use Rattle.route_planner.specs.declared.pin_kind.PinKind.{PinKind}
 use Rattle.route_planner.specs.declared.routes.Hop.{Hop}
 use Rattle.route_planner.specs.declared.routes.Route.{Route}
@@ -66,15 +67,15 @@ find_hop nid (first ∷ hops) =
     ]
 
 -- a connection that is allowed on its own is allowed beside hops that leave the node alike
-allowed_beside : (kind : PinKind) (codec : RawCodec) (entries : List PinPlan) (nid index n : ℕ) → IsBounded codec → (is_inner_at codec nid ≡ true → list_all (is_alike nid index) (all_hops entries) ≡ true) → target kind codec (table_of []) nid index ≡ Some n → target kind codec (table_of entries) nid index ≡ Some n
+allowed_beside : (kind : PinKind) (codec : RawCodec) (entries : List PinPlan) (nid index n : ℕ) → IsBounded codec → (is_inner_at codec nid ≡ true → list_all (is_alike nid index) (all_hops entries) ≡ true) → target (Out kind) codec (table_of []) nid index ≡ Some n → target (Out kind) codec (table_of entries) nid index ≡ Some n
 allowed_beside kind codec entries nid index n bounded alike leads =
-    let parts = target-parts kind codec (table_of []) nid index n leads in
-    let can = can_leave-parts kind codec (left_at (table_of []) nid) index (node_at codec nid) parts.0 in
+    let parts = target-parts (Out kind) codec (table_of []) nid index n leads in
+    let can = can_leave-parts (Out kind) codec (left_at (table_of []) nid) index (node_at codec nid) parts.0 in
     let are : AreLefts (table_of entries) entries = AreLefts-table entries in
     let allows_it : passes is_inner (node_at codec nid) ≡ true → allows (left_at (table_of entries) nid) index ≡ true = λ inner.
     are.right nid index (inner_below codec nid bounded inner) ∙ (all_alike nid index entries ∙ alike (as_inner codec nid inner))
     in
-    target-made kind codec (table_of entries) nid index n (can_leave-made kind codec (left_at (table_of entries) nid) index (node_at codec nid) (can.0, can.1, allows_it)) parts.1
+    target-made (Out kind) codec (table_of entries) nid index n (can_leave-made (Out kind) codec (left_at (table_of entries) nid) index (node_at codec nid) (can.0, can.1, allows_it)) parts.1
 
 -- the ends stay ends where all carry one pair
 ends_beside : (kind : PinKind) (codec : RawCodec) (format : Format) (pair : ℕ) (entries : List PinPlan) → All (λ (entry : PinPlan). entry.pair ≡ pair) entries → (nid : ℕ) → is_end kind codec format [] pair nid ≡ true → is_end kind codec format entries pair nid ≡ true
@@ -90,16 +91,16 @@ open_alone : (kind : PinKind) (codec : RawCodec) (format : Format) (pair pin : �
 open_alone kind codec format pair pin route right = (right, λ k d within. absurd (omega arith))
 
 -- the way of an earlier route goes on from each node that it leaves
-goes_on : (kind : PinKind) (codec : RawCodec) (format : Format) (pair : ℕ) (entries : List PinPlan) → IsBounded codec → AreOneWay kind codec format pair entries → (hop : Hop) → Contains (all_hops entries) hop → is_inner_at codec hop.nid ≡ true → (hops : List Hop) × (to : ℕ) × IsWay (is_inner_at codec) (target kind codec (table_of entries)) (is_end kind codec format entries pair) hop.nid hops to
+goes_on : (kind : PinKind) (codec : RawCodec) (format : Format) (pair : ℕ) (entries : List PinPlan) → IsBounded codec → AreOneWay kind codec format pair entries → (hop : Hop) → Contains (all_hops entries) hop → is_inner_at codec hop.nid ≡ true → (hops : List Hop) × (to : ℕ) × IsWay (is_inner_at codec) (target (Out kind) codec (table_of entries)) (is_end kind codec format entries pair) hop.nid hops to
 goes_on kind codec format pair entries bounded are hop has inner =
     let own = are.owned hop has in
     let route = own.0 in
     let alone = way_from_open_path kind codec format (table_of []) [] pair own.1 bounded (AreLefts-table []) route (open_alone kind codec format pair own.1 route own.2) in
-    let beside = other_way_out (is_inner_at codec) (target kind codec (table_of [])) (target kind codec (table_of entries)) (is_end kind codec format [] pair) (is_end kind codec format entries pair) (ends_beside kind codec format pair entries are.pairs) route.hops own.1 route.converter (λ twin there n leads. allowed_beside kind codec entries twin.nid twin.index n bounded (λ inn. alike_in kind codec format pair entries are twin (own.4 twin there) inn) leads) alone in
+    let beside = other_way_out (is_inner_at codec) (target (Out kind) codec (table_of [])) (target (Out kind) codec (table_of entries)) (is_end kind codec format [] pair) (is_end kind codec format entries pair) (ends_beside kind codec format pair entries are.pairs) route.hops own.1 route.converter (λ twin there n leads. allowed_beside kind codec entries twin.nid twin.index n bounded (λ inn. alike_in kind codec format pair entries are twin (own.4 twin there) inn) leads) alone in
     let at : get_or route.hops own.3.0 hop ≡ hop = own.3.2 in
     let nid : (get_or route.hops own.3.0 hop).nid ≡ hop.nid = ap (λ (h : Hop). h.nid) at in
-    let rest = drop_way_out (is_inner_at codec) (target kind codec (table_of entries)) (is_end kind codec format entries pair) route.hops own.3.0 hop own.1 route.converter own.3.1 (ap (is_inner_at codec) nid ∙ inner) beside in
-    (drop own.3.0 route.hops, route.converter, subst (λ (n : ℕ). IsWay (is_inner_at codec) (target kind codec (table_of entries)) (is_end kind codec format entries pair) n (drop own.3.0 route.hops) route.converter) nid rest)
+    let rest = drop_way_out (is_inner_at codec) (target (Out kind) codec (table_of entries)) (is_end kind codec format entries pair) route.hops own.3.0 hop own.1 route.converter own.3.1 (ap (is_inner_at codec) nid ∙ inner) beside in
+    (drop own.3.0 route.hops, route.converter, subst (λ (n : ℕ). IsWay (is_inner_at codec) (target (Out kind) codec (table_of entries)) (is_end kind codec format entries pair) n (drop own.3.0 route.hops) route.converter) nid rest)
 
 -- a pin that has an admissible path has an open one
 pub open_path_exists : (kind : PinKind) (codec : RawCodec) (format : Format) (pair : ℕ) (entries : List PinPlan) (pin : ℕ) → IsBounded codec → AreOneWay kind codec format pair entries → (is_inner_at codec pin ≡ true → ⊥) → (some : Route) → IsAdmissibleAs kind codec format pin some → (route : Route) × IsOpenPathAs kind codec format entries pair pin route
@@ -107,14 +108,14 @@ open_path_exists kind codec format pair entries pin bounded are outer some right
     let inner = is_inner_at codec in
     let end = is_end kind codec format entries pair in
     let alone = way_from_open_path kind codec format (table_of []) [] pair pin bounded (AreLefts-table []) some (open_alone kind codec format pair pin some right) in
-    let each : (nid : ℕ) → inner nid ≡ true → ((index n : ℕ) → target kind codec (table_of []) nid index ≡ Some n → target kind codec (table_of entries) nid index ≡ Some n) ⊎ ((hops : List Hop) × (to : ℕ) × IsWay inner (target kind codec (table_of entries)) end nid hops to) = λ nid is.
+    let each : (nid : ℕ) → inner nid ≡ true → ((index n : ℕ) → target (Out kind) codec (table_of []) nid index ≡ Some n → target (Out kind) codec (table_of entries) nid index ≡ Some n) ⊎ ((hops : List Hop) × (to : ℕ) × IsWay inner (target (Out kind) codec (table_of entries)) end nid hops to) = λ nid is.
     elim (find_hop nid (all_hops entries)) [
       | inl found ↦
           let on = goes_on kind codec format pair entries bounded are found.0 found.1 (ap inner found.2 ∙ is) in
-          inr (on.0, on.1, subst (λ (n : ℕ). IsWay inner (target kind codec (table_of entries)) end n on.0 on.1) found.2 on.2)
+          inr (on.0, on.1, subst (λ (n : ℕ). IsWay inner (target (Out kind) codec (table_of entries)) end n on.0 on.1) found.2 on.2)
       | inr none ↦ inl (λ index n leads. allowed_beside kind codec entries nid index n bounded (λ inn. list_all-from_AllPass (is_alike nid index) (all_hops entries) (λ k d within. alike_made nid index (get_or (all_hops entries) k d) (λ same. absurd (none (get_or (all_hops entries) k d) (Contains-get_or (all_hops entries) k d within) (sym same))))) leads)
     ]
     in
-    let way = change_way_out inner (target kind codec (table_of [])) (target kind codec (table_of entries)) (is_end kind codec format [] pair) end (ends_beside kind codec format pair entries are.pairs) each some.hops pin some.converter (λ index n leads. allowed_beside kind codec entries pin index n bounded (λ inn. absurd (outer inn)) leads) alone in
+    let way = change_way_out inner (target (Out kind) codec (table_of [])) (target (Out kind) codec (table_of entries)) (is_end kind codec format [] pair) end (ends_beside kind codec format pair entries are.pairs) each some.hops pin some.converter (λ index n leads. allowed_beside kind codec entries pin index n bounded (λ inn. absurd (outer inn)) leads) alone in
     let route : Route = record { hops = way.0; converter = way.1 } in
     (route, open_path_from_way kind codec format (table_of entries) entries pair pin bounded (AreLefts-table entries) route way.2)

@@ -73,6 +73,12 @@ same_places one other small large =
       ]
     ]
 
+-- two paths from one node of which neither is larger are one
+pub same_paths : (codec : RawCodec) (from to : ℕ) (one other : Route) → one.converter ≡ other.converter → LeadsTo codec from one.hops to → LeadsTo codec from other.hops to → IsNoLarger one other → IsNoLarger other one → one ≡ other
+same_paths codec from to one other converter leads_one leads_other small large =
+    let same = same_hops codec one.hops other.hops from to to (same_places one other small large) leads_one leads_other in
+    same_parts one other same.0 converter
+
 -- two paths of a pin of which neither is larger are one
 pub same_routes : (codec : RawCodec) (pin : ℕ) (one other : Route) → LeadsTo codec pin one.hops one.converter → LeadsTo codec pin other.hops other.converter → IsNoLarger one other → IsNoLarger other one → one ≡ other
 same_routes codec pin one other leads_one leads_other small large =

@@ -4,9 +4,11 @@ pub mod Order
 pub mod Paths
 pub mod Plans
 pub mod Laws
+pub mod Inputs
 -- what private functions promise one another
 pub mod Search
 pub mod Levels
 pub mod Ways
 pub mod Places
 pub mod Found
+pub mod FoundInputs

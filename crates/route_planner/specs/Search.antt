@@ -1,14 +1,16 @@
--- How the planner searches: which connections it may take, how far each node is from an allowed converter, and the ways
--- along allowed connections. This project's own.
+-- How the planner searches: which connections it may take, how far each node is from an end, and the ways along allowed
+-- connections. This project's own.
 use Rattle.std.specs.Prelude.{◌≡◌, ◌<◌, ◌≤◌, ℕ, Bool, true, false, ◌&&◌, ◌||◌, ◌==◌, not, List, length, Option, None}
 use Rattle.std.specs.Prelude.{is_some, slice_index_or, if◌then◌else◌, count_by}
 use Rattle.std.specs.List.{list_all}
 use Rattle.codec_graph.specs.declared.raw.RawNode.{RawNode}
 use Rattle.codec_graph.specs.declared.raw.RawCodec.{RawCodec}
 use Rattle.codec_graph.specs.Faults.{most_listed}
-use Rattle.codec_graph.specs.Widget.{node_identifiers, node_at, is_inner, is_output_converter}
+use Rattle.codec_graph.specs.Widget.{node_identifiers, node_at, is_inner, is_output_converter, is_input_converter}
 use Rattle.route_planner.specs.declared.left.Left.{Left}
 use Rattle.route_planner.specs.declared.left.Left.TheVariants.{Free, By, Never}
+use Rattle.route_planner.specs.declared.direction.Direction.{Direction}
+use Rattle.route_planner.specs.declared.direction.Direction.TheVariants.{Out, In}
 use Rattle.route_planner.specs.declared.pin_kind.PinKind.{PinKind}
 use Rattle.route_planner.specs.declared.routes.Hop.{Hop}
 use Rattle.route_planner.specs.declared.routes.Outcome.{Outcome}
@@ -16,7 +18,8 @@ use Rattle.route_planner.specs.declared.routes.Outcome.TheVariants as outcome
 use Rattle.route_planner.specs.declared.routes.PinPlan.{PinPlan}
 use Rattle.stream_format.specs.declared.format.Format.{Format}
 use Rattle.route_planner.specs.Formats.{supports}
-use Rattle.route_planner.specs.Paths.{passes, list_of, connection, can_carry, can_be_left_as}
+use Rattle.route_planner.specs.Paths.{passes, list_of, connection, is_analog_stereo, can_carry, can_be_left_as}
+use Rattle.route_planner.specs.Inputs.{can_be_left_in}
 
 -- whether a node may be left by a connection
 abbrev pub allows : Left → ℕ → Bool
@@ -50,16 +53,26 @@ outcome_carries pair nid other_pair outcome.NoPath = true
 abbrev pub carries_alike : ℕ → ℕ → PinPlan → Bool
 carries_alike pair nid entry = outcome_carries pair nid entry.pair entry.outcome
 
--- whether a route of the kind may leave the node by the connection at an index
-abbrev pub can_leave : PinKind → RawCodec → Left → ℕ → RawNode → Bool
-can_leave kind codec left index node =
-    can_carry kind node && can_be_left_as kind codec index node && (not (is_inner node) || allows left index)
+-- whether a path of a direction may have the node, and whether it may leave it by the connection at an index
+abbrev pub can_carry_along : Direction → RawNode → Bool
+can_carry_along (Out kind) node = can_carry kind node
+can_carry_along In node = is_analog_stereo node
+
+abbrev pub can_be_left_along : Direction → RawCodec → ℕ → RawNode → Bool
+can_be_left_along (Out kind) codec index node = can_be_left_as kind codec index node
+can_be_left_along In codec index node = can_be_left_in codec index node
+
+-- the same beside other paths: these say by which connections a mixer or selector may be left
+abbrev pub can_leave : Direction → RawCodec → Left → ℕ → RawNode → Bool
+can_leave direction codec left index node =
+    can_carry_along direction node && can_be_left_along direction codec index node
+    && (not (is_inner node) || allows left index)
 
 -- the node to which an allowed connection leads
-unfoldable pub target : PinKind → RawCodec → List Left → ℕ → ℕ → Option ℕ
-target kind codec lefts nid index =
-    if passes (can_leave kind codec (left_at lefts nid) index) (node_at codec nid) then connection codec nid index else
-    None
+unfoldable pub target : Direction → RawCodec → List Left → ℕ → ℕ → Option ℕ
+target direction codec lefts nid index =
+    if passes (can_leave direction codec (left_at lefts nid) index) (node_at codec nid) then connection codec nid index
+    else None
 
 unfoldable pub is_inner_at : RawCodec → ℕ → Bool
 is_inner_at codec nid = passes is_inner (node_at codec nid)
@@ -73,6 +86,18 @@ can_end kind codec format node =
 unfoldable pub is_end : PinKind → RawCodec → Format → List PinPlan → ℕ → ℕ → Bool
 is_end kind codec format earlier pair nid =
     passes (can_end kind codec format) (node_at codec nid) && list_all (carries_alike pair nid) earlier
+
+-- an input converter that can give the format
+abbrev pub can_begin : RawCodec → Format → RawNode → Bool
+can_begin codec format node = is_input_converter node && supports codec format.rate format.bits node
+
+-- whether a path of an input may begin at the node
+abbrev pub is_begin : RawCodec → Format → ℕ → Bool
+is_begin codec format nid = passes (can_begin codec format) (node_at codec nid)
+
+-- the one end of the paths of an input
+abbrev pub is_pin_end : ℕ → ℕ → Bool
+is_pin_end pin nid = nid == pin
 
 -- the widgets have node identifiers, and no more connections than a widget may list
 pub record IsBounded (codec : RawCodec) : Type 0 where

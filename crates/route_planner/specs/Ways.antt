@@ -2,7 +2,7 @@
 use Rattle.std.specs.Prelude.{◌≡◌, ◌<◌, ◌≤◌, ◌+◌, ◌⊎◌, ◌≢◌, ◌==◌, ℕ, Bool, true, List, [], ◌∷◌, map, length, Option}
 use Rattle.std.specs.Prelude.{Some}
 use Rattle.route_planner.specs.declared.routes.Hop.{Hop}
-use Rattle.route_planner.specs.declared.routes.Route.{Route}
+use Rattle.route_planner.specs.declared.walk.Way.{Way}
 use Rattle.route_planner.specs.Search.{level_of}
 use Rattle.route_planner.specs.Paths.{IsNoLater}
 
@@ -56,7 +56,7 @@ abbrev pub has_level_0 : List ℕ → ℕ → Bool
 has_level_0 levels nid = level_of levels nid == 0
 
 -- the least way from a node to an end
-pub record IsLeastWay (inner : ℕ → Bool) (next : ℕ → ℕ → Option ℕ) (end : ℕ → Bool) (from : ℕ) (route : Route) : Type 0
+pub record IsLeastWay (inner : ℕ → Bool) (next : ℕ → ℕ → Option ℕ) (end : ℕ → Bool) (from : ℕ) (way : Way) : Type 0
   where
-    pub way : IsWayOut inner next end from route.hops route.converter
-    pub least : (others : List Hop) (to : ℕ) → IsWayOut inner next end from others to → AreNoLarger route.hops others
+    pub leads : IsWayOut inner next end from way.hops way.end
+    pub least : (others : List Hop) (to : ℕ) → IsWayOut inner next end from others to → AreNoLarger way.hops others

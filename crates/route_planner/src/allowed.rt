@@ -1,13 +1,16 @@
-//! Which connections a route may take, and where it may end.
+//! Which connections a path may take, and where it may begin and end.
 ghost use Rattle.std.specs.Prelude.{◌≡◌, ◌<◌};
+ghost use Rattle.codec_graph.specs.Widget as widget;
 ghost use Rattle.route_planner.specs.Formats as formats;
+ghost use Rattle.route_planner.specs.Inputs as inputs;
 ghost use Rattle.route_planner.specs.Paths as paths;
 ghost use Rattle.route_planner.specs.Search as spec;
 
+use crate::direction::Direction;
 use crate::left::Left;
 use crate::pin_kind::PinKind;
 use crate::routes::{Outcome, PinPlan};
-use codec_graph::{RawCodec, RawNode, can_mute};
+use codec_graph::{RawCodec, RawNode, bits_of, can_mute};
 use stream_format::{Bits, Format, Rate};
 use verb_codes::has_bit;
 
@@ -62,18 +65,56 @@ fn can_be_left_as(kind: PinKind, codec: &RawCodec, index: usize, node: &RawNode)
     }
 }
 
-/// Whether a route of the kind may leave the node by the connection at this index.
+/// The type of an audio input converter, bits 23:20 of the widget capabilities (HDA 1.0a, 7.3.4.6).
+const INPUT_CONVERTER: u32 = 1;
+
+/// Whether the widget is an audio input converter.
+fn is_input_converter(node: &RawNode) -> bool
+    ensures { result ≡ widget.is_input_converter node.now }
+{
+    bits_of(node.caps, 20, 4) == INPUT_CONVERTER
+}
+
+/// Whether set-up can open the node of an input's path for the connection at this index alone.
+fn can_be_left_in(codec: &RawCodec, index: usize, node: &RawNode) -> bool
+    ensures { result ≡ inputs.can_be_left_in codec.now index node.now }
+{
+    let selects_amplifier = is_input_converter(node) && node.has_input_amplifier();
+    can_be_left(codec, index, node) && (!selects_amplifier || index <= 15)
+}
+
+/// Whether paths of the direction may have the node.
+fn can_carry_along(direction: Direction, node: &RawNode) -> bool
+    ensures { result ≡ spec.can_carry_along direction node.now }
+{
+    match direction {
+        Direction::Out(kind) => can_carry(kind, node),
+        Direction::In => is_analog_stereo(node),
+    }
+}
+
+/// Whether paths of the direction may leave the node by the connection at this index, whatever other paths do.
+fn can_be_left_along(direction: Direction, codec: &RawCodec, index: usize, node: &RawNode) -> bool
+    ensures { result ≡ spec.can_be_left_along direction codec.now index node.now }
+{
+    match direction {
+        Direction::Out(kind) => can_be_left_as(kind, codec, index, node),
+        Direction::In => can_be_left_in(codec, index, node),
+    }
+}
+
+/// Whether a path of the direction may leave the node by the connection at this index.
 pub(crate) fn can_leave(
-    kind: PinKind,
+    direction: Direction,
     codec: &RawCodec,
     left: Left,
     index: usize,
     node: &RawNode,
 ) -> bool
-    ensures { result ≡ spec.can_leave kind codec.now left index node.now }
+    ensures { result ≡ spec.can_leave direction codec.now left index node.now }
 {
-    can_carry(kind, node)
-        && can_be_left_as(kind, codec, index, node)
+    can_carry_along(direction, node)
+        && can_be_left_along(direction, codec, index, node)
         && (!node.is_inner() || left.allows(index))
 }
 
@@ -146,6 +187,16 @@ pub(crate) fn is_end(
     match codec.node(nid) {
         Some(node) => can_end(kind, codec, format, node)
             && earlier.iter().all(|entry| carries_alike(pair, nid, entry)),
+        None => false,
+    }
+}
+
+/// Whether a path of an input may begin at the node: it is an input converter that gives the format.
+pub(crate) fn is_begin(codec: &RawCodec, format: Format, nid: u8) -> bool
+    ensures { result ≡ spec.is_begin codec.now format nid }
+{
+    match codec.node(nid) {
+        Some(node) => is_input_converter(node) && supports(codec, format, node),
         None => false,
     }
 }

@@ -1,4 +1,4 @@
-//! How many hops lead from each node to a converter.
+//! How many hops lead from each node to an end: a converter, or the pin of an input.
 ghost use Rattle.std.specs.Prelude.{◌≡◌, ◌≢◌, ◌&&◌, ◌<◌, ◌≤◌, ◌+◌, ℕ, Bool, MatchOption, length};
 ghost use Rattle.std.specs.Bool.{OnTrue, OnFalse};
 ghost use Rattle.route_planner.specs.Search as spec;
@@ -6,6 +6,7 @@ ghost use Rattle.route_planner.specs.Levels as stage;
 ghost use Rattle.route_planner.specs.Ways as ways;
 
 use crate::allowed::{can_leave, is_end, is_inner};
+use crate::direction::Direction;
 use crate::left::Left;
 use crate::pin_kind::PinKind;
 use crate::routes::PinPlan;
@@ -49,9 +50,18 @@ pub(crate) fn end_levels(
     levels
 }
 
+/// Level 0 for the one node at which the paths of an input end, and no level for the other nodes.
+pub(crate) fn pin_levels(pin: u8) -> [u16; 256]
+    ensures { stage.AreEndLevels (spec.is_pin_end pin) result }
+{
+    let mut levels = [FAR; 256];
+    levels[usize::from(pin)] = 0;
+    levels
+}
+
 /// The first connection of the node that may be taken and leads to a node of the level.
 pub(crate) fn first_step(
-    kind: PinKind,
+    direction: Direction,
     codec: &RawCodec,
     lefts: &[Left; 256],
     levels: &[u16; 256],
@@ -60,13 +70,13 @@ pub(crate) fn first_step(
 ) -> Option<Step>
     requires { spec.IsBounded codec.now }
     ensures { MatchOption result
-        (stage.LeadsNowhere (spec.target kind codec.now lefts.now nid) levels.now level)
-        (stage.IsFirstStep (spec.target kind codec.now lefts.now nid) levels.now level) }
+        (stage.LeadsNowhere (spec.target direction codec.now lefts.now nid) levels.now level)
+        (stage.IsFirstStep (spec.target direction codec.now lefts.now nid) levels.now level) }
 {
     let node = codec.node(nid)?;
     let left = lefts[usize::from(nid)];
     for (index, to) in node.list.as_slice().iter().enumerate() {
-        if level_of(levels, *to) == level && can_leave(kind, codec, left, index, node) {
+        if level_of(levels, *to) == level && can_leave(direction, codec, left, index, node) {
             return Some(Step {
                 index: index as u8,
                 to: *to,
@@ -78,7 +88,7 @@ pub(crate) fn first_step(
 
 /// Whether the node is a mixer or selector that has no level and leads to a node of the level.
 fn is_next(
-    kind: PinKind,
+    direction: Direction,
     codec: &RawCodec,
     lefts: &[Left; 256],
     levels: &[u16; 256],
@@ -87,18 +97,19 @@ fn is_next(
 ) -> bool
     requires { spec.IsBounded codec.now }
     ensures yes { OnTrue result
-        (stage.IsNext (spec.is_inner_at codec.now) (spec.target kind codec.now lefts.now) levels.now level nid) }
+        (stage.IsNext (spec.is_inner_at codec.now) (spec.target direction codec.now lefts.now) levels.now level nid) }
     ensures no { OnFalse result
-        (stage.IsNext (spec.is_inner_at codec.now) (spec.target kind codec.now lefts.now) levels.now level nid → ⊥) }
+        (stage.IsNext (spec.is_inner_at codec.now) (spec.target direction codec.now lefts.now) levels.now level nid
+        → ⊥) }
 {
     level_of(levels, nid) == FAR
         && is_inner(codec, nid)
-        && first_step(kind, codec, lefts, levels, nid, level).is_some()
+        && first_step(direction, codec, lefts, levels, nid, level).is_some()
 }
 
 /// Gives the next level to each mixer or selector that has none and leads to a node of the level. Whether there is one.
 fn mark_level(
-    kind: PinKind,
+    direction: Direction,
     codec: &RawCodec,
     lefts: &[Left; 256],
     levels: &mut [u16; 256],
@@ -106,14 +117,15 @@ fn mark_level(
 ) -> bool
     requires bounded { spec.IsBounded codec.now }
     requires near { level < 65534 }
-    ensures marked { stage.IsNextLevel (spec.is_inner_at codec.now) (spec.target kind codec.now lefts.now) levels.old
+    ensures marked { stage.IsNextLevel (spec.is_inner_at codec.now) (spec.target direction codec.now lefts.now)
+        levels.old
         levels.new level }
     ensures fewer { OnTrue result (spec.count_far levels.new < spec.count_far levels.old) }
     ensures same { OnFalse result (levels.new ≡ levels.old) }
 {
     let mut marked = false;
     for nid in 0..NODE_IDENTIFIERS as u8 {
-        if is_next(kind, codec, lefts, levels, nid, level) {
+        if is_next(direction, codec, lefts, levels, nid, level) {
             levels[usize::from(nid)] = level + 1;
             marked = true;
         }
@@ -124,7 +136,7 @@ fn mark_level(
 /// Gives the nodes their levels until a connection of the node leads to one with a level, which is then the least that
 /// any leads to. None where no way leads from the node to an end.
 pub(crate) fn nearest_level(
-    kind: PinKind,
+    direction: Direction,
     codec: &RawCodec,
     lefts: &[Left; 256],
     levels: &mut [u16; 256],
@@ -133,15 +145,15 @@ pub(crate) fn nearest_level(
     requires { spec.IsBounded codec.now }
     ensures { (end : ℕ → Bool) → stage.AreEndLevels end levels.old
         → MatchOption result
-        (ways.LeadsToNoEnd (spec.is_inner_at codec.now) (spec.target kind codec.now lefts.now) end from)
-        (ways.IsNearest (spec.is_inner_at codec.now) (spec.target kind codec.now lefts.now) end levels.new from) }
+        (ways.LeadsToNoEnd (spec.is_inner_at codec.now) (spec.target direction codec.now lefts.now) end from)
+        (ways.IsNearest (spec.is_inner_at codec.now) (spec.target direction codec.now lefts.now) end levels.new from) }
 {
     let mut level = 0;
     loop {
-        if first_step(kind, codec, lefts, levels, from, level).is_some() {
+        if first_step(direction, codec, lefts, levels, from, level).is_some() {
             return Some(level);
         }
-        if !mark_level(kind, codec, lefts, levels, level) {
+        if !mark_level(direction, codec, lefts, levels, level) {
             return None;
         }
         level += 1;

@@ -1,5 +1,6 @@
 //! The order of the candidate pins of each kind, and the pair of channels of each.
 ghost use Rattle.std.specs.Prelude.{◌≡◌, ◌≤◌, ◌<◌, false, IfOk, MatchOption};
+ghost use Rattle.codec_graph.specs.Widget.{node_at};
 ghost use Rattle.route_planner.specs.Kinds as kinds;
 ghost use Rattle.route_planner.specs.Order as spec;
 ghost use Rattle.route_planner.specs.Places as place_words;
@@ -16,7 +17,7 @@ const HEADPHONE_DEVICE: u32 = 2;
 const DIGITAL_DEVICE: u32 = 4;
 
 /// The port connectivity of a pin to which nothing is connected (HDA 1.0a, 7.3.3.31).
-const UNCONNECTED: u32 = 1;
+pub(crate) const UNCONNECTED: u32 = 1;
 
 /// The bit of the pin capabilities that says that it can drive an output (HDA 1.0a, 7.3.4.9).
 const OUTPUT_CAPABLE: u32 = 4;
@@ -123,6 +124,37 @@ fn place_of(kind: PinKind, codec: &RawCodec, nid: u8) -> Option<Place>
         sequence: node.sequence(),
         nid,
     })
+}
+
+/// The association of the widget with this node identifier, and 0 where there is none.
+fn association_at(codec: &RawCodec, nid: u8) -> u32
+    ensures { result ≡ spec.association_of (node_at codec.now nid) }
+{
+    match codec.node(nid) {
+        Some(node) => node.association(),
+        None => 0,
+    }
+}
+
+/// The sequence of the widget with this node identifier, and 0 where there is none.
+fn sequence_at(codec: &RawCodec, nid: u8) -> u32
+    ensures { result ≡ spec.sequence_of (node_at codec.now nid) }
+{
+    match codec.node(nid) {
+        Some(node) => node.sequence(),
+        None => 0,
+    }
+}
+
+/// Whether a pin comes before another: by association, then by sequence, then by node identifier.
+pub(crate) fn comes_before(codec: &RawCodec, pin: u8, other: u8) -> bool
+    ensures { result ≡ spec.comes_before codec.now pin other }
+{
+    let associations = (association_at(codec, pin), association_at(codec, other));
+    let sequences = (sequence_at(codec, pin), sequence_at(codec, other));
+    associations.0 < associations.1
+        || associations.0 == associations.1
+            && (sequences.0 < sequences.1 || sequences.0 == sequences.1 && pin < other)
 }
 
 /// Whether the pin's default device is a headphone: HP out (HDA 1.0a, 7.3.3.31).

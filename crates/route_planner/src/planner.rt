@@ -5,12 +5,13 @@ ghost use Rattle.route_planner.specs.Found as found;
 ghost use Rattle.route_planner.specs.Search as spec;
 ghost use Rattle.route_planner.specs.Laws as laws;
 
+use crate::direction::Direction;
 use crate::left::lefts_of;
 use crate::levels::{end_levels, nearest_level};
 use crate::pin_kind::PinKind;
 use crate::pin_order::{order_as, pair_as};
 use crate::routes::{Outcome, PinPlan, Plan, Route};
-use crate::walk::walk;
+use crate::walk::{Way, walk};
 use codec_graph::{Graph, RawCodec};
 use hda_items::Items;
 use std::alloc::{AllocError, Global};
@@ -44,8 +45,8 @@ pub fn digital_plan(alloc: Global, graph: &Graph, format: Format) -> Result<Plan
     plan_as(alloc, PinKind::Digital, graph, format)
 }
 
-/// The plan of a graph for a kind of pins. Digital pins have the first pair each, and so have the pins of a sound of two
-/// channels, so that none of them is blocked; of analog pins and more channels some may be.
+/// The plan of a graph for a kind of pins. Digital pins have the first pair each, and so have the pins of a sound of
+/// two channels, so that none of them is blocked; of analog pins and more channels some may be.
 ///
 /// # Errors
 /// Want of memory.
@@ -125,8 +126,13 @@ fn least_open(
 {
     let lefts = lefts_of(earlier);
     let mut levels = end_levels(kind, codec, format, earlier, pair);
-    match nearest_level(kind, codec, &lefts, &mut levels, pin) {
-        Some(level) => Ok(Some(walk(alloc, kind, codec, &lefts, &levels, pin, level)?)),
-        None => Ok(None),
-    }
+    let direction = Direction::Out(kind);
+    let Some(level) = nearest_level(direction, codec, &lefts, &mut levels, pin) else {
+        return Ok(None);
+    };
+    let Way { hops, end } = walk(alloc, direction, codec, &lefts, &levels, pin, level)?;
+    Ok(Some(Route {
+        hops,
+        converter: end,
+    }))
 }

@@ -8,11 +8,12 @@ pub struct Hop {
     pub index: u8,
 }
 
-/// A path from a pin to an output converter: the hops that leave the pin and each mixer or selector on the way.
+/// A path between a pin and a converter. Of an output the hops leave the pin and each mixer or selector on the way to
+/// the converter; of an input they leave the converter and each on the way to the pin.
 #[derive(Debug, Drop)]
 pub struct Route {
     pub hops: Items<Hop>,
-    /// The node identifier of the converter.
+    /// The node identifier of the converter: where the hops of an output end, and those of an input begin.
     pub converter: u8,
 }
 
@@ -33,12 +34,13 @@ pub struct PinPlan {
     /// The node identifier of the pin.
     pub pin: u8,
     /// The pair of channels that the pin plays: 0 for a headphone and for a digital pin, and else the pin's rank, from
-    /// 0, among the candidates of its association that are no headphones, round the pairs of the stream.
+    /// 0, among the candidates of its association that are no headphones, round the pairs of the stream. Of an input it
+    /// is 0 and tells nothing.
     pub pair: u8,
     pub outcome: Outcome,
 }
 
-/// The plan of a graph: its candidate pins in order.
+/// The plan of a graph: its candidate pins in order; for an input the first that has a route, or none.
 #[derive(Debug, Drop)]
 pub struct Plan {
     pub pins: Items<PinPlan>,

@@ -18,12 +18,13 @@ use std::process::ExitCode;
 use test_cases::{Cases, run_cases, text_of};
 
 /// The files of cases.
-const FILES: [&str; 8] = [
+const FILES: [&str; 9] = [
     "words.txt",
     "schedules.txt",
     "sounds.txt",
     "codec_files.txt",
     "graphs.txt",
+    "inputs.txt",
     "verbs.txt",
     "dumps.txt",
     "bad_dumps.txt",
@@ -48,6 +49,7 @@ impl Cases for Calls {
             "machine" => codec_files::tell(alloc, rest),
             "ask" => graphs::tell(alloc, rest),
             "plan" => plans::tell(alloc, rest),
+            "input" => plans::tell_input(alloc, rest),
             "decode" => verbs::tell_decoded(alloc, rest),
             "setting" => verbs::tell_setting(alloc, rest),
             "side" => verbs::tell_side(alloc, rest),

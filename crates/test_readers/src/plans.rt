@@ -1,5 +1,5 @@
 //! The plans of codec files.
-use route_planner::{Bits, Format, Outcome, Plan, Rate, order, plan};
+use route_planner::{Bits, Format, Outcome, Plan, Rate, input_plan, order, plan};
 use std::alloc::{AllocError, Global};
 use std::fmt::Write;
 use test_cases::{number_of, push_hex, text_of};
@@ -44,8 +44,22 @@ fn push_plan(text: &mut String, plan: &Plan) -> Result<(), AllocError> {
     Ok(())
 }
 
-/// The order of the pins of a file's codec and its plan, for a rate, 2, 4, 6 or 8 channels, and samples of 16, 24 or 32
-/// bits.
+/// The format of a rate, 2, 4, 6 or 8 channels, and samples of 16, 24 or 32 bits.
+fn format_named(rate: &[u8], channels: &[u8], bits: &[u8]) -> Format {
+    let channels = match number_of(channels) {
+        2 => 2,
+        4 => 4,
+        6 => 6,
+        _ => 8,
+    };
+    Format {
+        rate: rate_named(text_of(rate)),
+        bits: bits_named(text_of(bits)),
+        channels,
+    }
+}
+
+/// The order of the pins of a file's codec and its plan, for a format.
 pub fn tell(alloc: Global, words: &[Vec<u8>]) -> Result<String, AllocError> {
     let [file, rate, channels, bits] = words else {
         return format!(in alloc; "no plan");
@@ -53,19 +67,23 @@ pub fn tell(alloc: Global, words: &[Vec<u8>]) -> Result<String, AllocError> {
     let Some(codec) = codec_of(alloc, file) else {
         return format!(in alloc; "refused");
     };
-    let channels = match number_of(channels) {
-        2 => 2,
-        4 => 4,
-        6 => 6,
-        _ => 8,
-    };
-    let format = Format {
-        rate: rate_named(text_of(rate)),
-        bits: bits_named(text_of(bits)),
-        channels,
-    };
+    let format = format_named(rate, channels, bits);
     let mut text = String::new(alloc);
     push_hex(&mut text, order(alloc, &codec.graph)?.as_slice())?;
     push_plan(&mut text, &plan(alloc, &codec.graph, format)?)?;
+    Ok(text)
+}
+
+/// How many entries the plan of a file's codec for an input has, and the plan, for a format.
+pub fn tell_input(alloc: Global, words: &[Vec<u8>]) -> Result<String, AllocError> {
+    let [file, rate, channels, bits] = words else {
+        return format!(in alloc; "no plan");
+    };
+    let Some(codec) = codec_of(alloc, file) else {
+        return format!(in alloc; "refused");
+    };
+    let plan = input_plan(alloc, &codec.graph, format_named(rate, channels, bits))?;
+    let mut text = format!(in alloc; "{}", plan.pins.len())?;
+    push_plan(&mut text, &plan)?;
     Ok(text)
 }
