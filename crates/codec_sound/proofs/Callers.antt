@@ -8,10 +8,6 @@ pub use Rattle.codec_sound.proofs.Outputs.{out-gives-from, out-only-from}
 pub use Rattle.codec_sound.proofs.Agreeing.{gives-agree, gives-agree-from}
 -- signals that are worked out anew are those of the moment, for the same pins
 pub use Rattle.codec_sound.proofs.Renewing.{AreKept-renewed, AreKept-with_signals, pins_of_renewed, kept_pins-with_signals}
--- the signal by the format of a word is that of the word
-pub use Rattle.codec_sound.proofs.HeardLists.{signal_by-word}
--- lists go on frame by frame
-pub use Rattle.codec_sound.proofs.HeardLists.{heard-append, heard-push, items-missed, items-empty}
 -- both channels of a pair are among the stream's
 pub use Rattle.codec_sound.proofs.Pairs.{among-signal_of}
 -- signals are renewed alike by functions that agree

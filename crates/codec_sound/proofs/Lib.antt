@@ -2,7 +2,6 @@ pub mod Agreeing
 pub mod Ways
 pub mod Outputs
 pub mod Renewing
-pub mod HeardLists
 pub mod Carrying
 pub mod Pairs
 pub mod Listening

@@ -2,6 +2,5 @@ pub mod Amplifiers
 pub mod Signals
 pub mod Inward
 pub mod Keeping
-pub mod HeardLists
 -- what private functions promise one another
 pub mod Depths

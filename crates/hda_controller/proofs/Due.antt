@@ -13,7 +13,7 @@ use Rattle.stream_format.specs.Layouts.{Layout, layout, layout_of}
 use Rattle.stream_format.proofs.Callers.{bounded}
 use Rattle.world_streams.proofs.Callers.{few_bytes, some_block, few_blocks}
 use Rattle.codec_sound.specs.Signals.{IsAmong}
-use Rattle.codec_sound.specs.HeardLists.{signal_with_as}
+use Rattle.heard_frames.specs.HeardLists.{signal_with_as}
 use Rattle.codec_sound.proofs.Callers.{among-signal_of}
 use Rattle.heard_lists.specs.Listings.{Listing, HasRoom}
 use Rattle.hda_controller.specs.Hearing.{AreDue}

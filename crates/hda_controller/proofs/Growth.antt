@@ -16,7 +16,7 @@ use Rattle.world_streams.specs.Output as output
 use Rattle.stream_descriptor.specs.Running.{found_at, stream_at}
 use Rattle.stream_descriptor.specs.Frames.{AreDue as AreDueOf}
 use Rattle.codec_sound.specs.declared.signals.Signal.{Signal}
-use Rattle.codec_sound.specs.HeardLists.{signal_with_as}
+use Rattle.heard_frames.specs.HeardLists.{signal_with_as}
 use Rattle.hda_world.specs.Worlds.{World, CarriedFrame, output_of, codec_at}
 use Rattle.hda_world.specs.Steps as steps
 use Rattle.hda_world.specs.Steps.{frame_carried, frame_step, output_framed, passed, times, waiting_of, is_busy, address_of}

@@ -8,7 +8,7 @@ use Rattle.std.proofs.lemmas.Option.{slice_get_cases}
 use Rattle.codec_graph.specs.CodecStates.{CodecState}
 use Rattle.stream_format.specs.Layouts.{layout_of}
 use Rattle.codec_sound.specs.declared.signals.Signal.{Signal}
-use Rattle.codec_sound.specs.HeardLists.{signal_with_as}
+use Rattle.heard_frames.specs.HeardLists.{signal_with_as}
 use Rattle.codec_sound.specs.Keeping.{KeptSignals, AreKept, kept_pins}
 use Rattle.hda_world.specs.Worlds.{codec_at}
 use Rattle.device_core.specs.Codecs.{place_of}

@@ -18,7 +18,7 @@ use Rattle.hda_files.specs.declared.machine.Machine.{Machine}
 use Rattle.hda_files.specs.Machines.{IsSound}
 use Rattle.heard_lists.specs.Listings.{Listing, AreListsAs, graphs_in, places_of, places_in, pins_of, grown_as, with_items, handed_out}
 use Rattle.heard_lists.specs.declared.pin_list.PinHeard.{PinHeard}
-use Rattle.codec_sound.specs.HeardLists.{heard_as}
+use Rattle.heard_frames.specs.HeardLists.{heard_as}
 use Rattle.hda_world.specs.Worlds.{World, CarriedFrame, codec_at}
 use Rattle.hda_world.specs.Steps.{after_step}
 use Rattle.hda_world.proofs.Callers.{steps_leave}

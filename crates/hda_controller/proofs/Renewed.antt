@@ -10,9 +10,10 @@ use Rattle.stream_format.specs.declared.format.Format.{Format}
 use Rattle.stream_format.specs.Layouts.{Layout, layout, layout_of}
 use Rattle.stream_format.specs.Words.{format_word, HasNoFormat}
 use Rattle.codec_sound.specs.declared.signals.Signal.{Signal}
-use Rattle.codec_sound.specs.HeardLists.{signal_with_as}
+use Rattle.heard_frames.specs.HeardLists.{signal_with_as}
 use Rattle.codec_sound.specs.Keeping.{KeptSignals, signal_by_as, with_signals, renewed, counted_on}
-use Rattle.codec_sound.proofs.Callers.{AreKept-renewed, pins_of_renewed, signal_by-word, renewed-agree}
+use Rattle.codec_sound.proofs.Callers.{AreKept-renewed, pins_of_renewed, renewed-agree}
+use Rattle.heard_frames.proofs.Callers.{signal_by-word}
 use Rattle.hda_controller.specs.Keeping.{signal_laid, signal_set, IsKeptFor}
 use Rattle.hda_controller.specs.Renewing.{renewed_for, all_renewed, one_renewed}
 

@@ -7,9 +7,9 @@ use Rattle.codec_graph.specs.CodecStates.{CodecState}
 use Rattle.stream_format.specs.Layouts.{Layout, layout_of}
 use Rattle.world_streams.proofs.Callers.{some_block}
 use Rattle.codec_sound.specs.declared.signals.Signal.{Signal}
-use Rattle.codec_sound.specs.HeardLists.{block_size}
+use Rattle.heard_frames.specs.HeardLists.{block_size}
 use Rattle.device_core.specs.Devices.{DeviceState, KeepsSound}
-use Rattle.codec_sound.specs.declared.heard.Heard.TheVariants.{Hole}
+use Rattle.heard_frames.specs.declared.heard.Heard.TheVariants.{Hole}
 use Rattle.heard_lists.specs.Listings.{Listing, HasRoom, with_blocks, with_items}
 use Rattle.heard_lists.proofs.Callers.{both_count, blocks-on, no-blocks, HasRoom-fewer}
 use Rattle.hda_controller.specs.Controllers.{is_candidate_of_kind}

@@ -8,7 +8,7 @@ use Rattle.route_planner.specs.Kinds.{is_candidate_as}
 use Rattle.codec_graph.specs.CodecStates.{CodecState}
 use Rattle.stream_format.specs.Layouts.{layout_of}
 use Rattle.codec_sound.specs.declared.signals.Signal.{Signal}
-use Rattle.codec_sound.specs.HeardLists.{signal_with_as}
+use Rattle.heard_frames.specs.HeardLists.{signal_with_as}
 use Rattle.codec_sound.specs.Keeping.{KeptSignals, counted_on}
 use Rattle.device_core.specs.declared.codecs.Handed.{Handed}
 use Rattle.device_core.specs.Devices.{DeviceState, IsWorld}

@@ -4,7 +4,7 @@ use Rattle.std.specs.Prelude.{◌≡◌, ◌*◌, ◌/◌, ℕ, List, [], length
 use Rattle.stream_format.specs.Layouts.{Layout, layout_of}
 use Rattle.route_planner.specs.declared.pin_kind.PinKind.{PinKind}
 use Rattle.codec_sound.specs.declared.signals.Signal.{Signal}
-use Rattle.codec_sound.specs.HeardLists.{block_size}
+use Rattle.heard_frames.specs.HeardLists.{block_size}
 use Rattle.device_core.specs.Devices.{DeviceState}
 use Rattle.heard_lists.specs.Listings.{Listing, with_blocks}
 use Rattle.hda_controller.specs.Controllers.{signal_now}

@@ -10,9 +10,9 @@ use Rattle.std.proofs.lemmas.Simd.{map-map}
 use Rattle.world_steps.specs.declared.Step.{Step}
 use Rattle.hda_registers.specs.declared.shapes.Width.{Width}
 use Rattle.hda_files.specs.declared.machine.Machine.{Machine}
-use Rattle.codec_sound.specs.declared.heard.Heard.{Heard}
-use Rattle.codec_sound.specs.HeardLists.{heard}
-use Rattle.codec_sound.proofs.Callers.{heard-append}
+use Rattle.heard_frames.specs.declared.heard.Heard.{Heard}
+use Rattle.heard_frames.specs.HeardLists.{heard}
+use Rattle.heard_frames.proofs.Callers.{heard-append}
 use Rattle.hda_world.specs.Worlds.{World, CarriedFrame}
 use Rattle.hda_world.specs.Events.{after_write}
 use Rattle.hda_world.specs.Steps.{after_step}

@@ -7,7 +7,7 @@ use Rattle.world_steps.specs.declared.Step.{Step}
 use Rattle.hda_registers.specs.declared.shapes.Width.{Width}
 use Rattle.hda_files.specs.declared.machine.Machine.{Machine}
 use Rattle.hda_files.specs.Machines.{Reads}
-use Rattle.codec_sound.specs.HeardLists.{heard}
+use Rattle.heard_frames.specs.HeardLists.{heard}
 use Rattle.hda_world.specs.Worlds.{World}
 use Rattle.hda_world.specs.Events.{after_write}
 use Rattle.hda_world.specs.Steps.{after_step}

@@ -1,11 +1,11 @@
 //! What a pin heard, as numbers of a fixed layout.
 ghost use Rattle.std.specs.Prelude.{◌≡◌, ◌<◌, length, map, drop, get_or};
-ghost use Rattle.codec_sound.specs.declared.heard.Heard.{Heard};
+ghost use Rattle.heard_frames.specs.declared.heard.Heard.{Heard};
 ghost use Rattle.heard_lists.specs.Listings.{Listing, handed_out};
 ghost use Rattle.hda_model.specs.Copies.{copied, item_of, most_copied, list_of, count_of};
 
 use crate::places::place_of;
-use codec_sound::Heard;
+use heard_frames::Heard;
 use heard_lists::HeardLists;
 
 /// What a pin heard of a block, or of a link frame that missed its blocks, as numbers of a fixed layout.

@@ -9,10 +9,10 @@ mod model;
 mod places;
 mod room;
 
-pub use codec_sound::Heard;
 pub use faults::{MOST_TEXT_BYTES, OpenFault, StepFault};
 pub use hda_files::FileFault;
 pub use hda_registers::Width;
+pub use heard_frames::Heard;
 pub use heard_items::{HeardItem, copy_bytes};
 pub use laws::{lent_memory_may_change, stands_for_one};
 pub use model::DeviceModel;

@@ -3,13 +3,13 @@ ghost use Rattle.std.specs.Prelude.{◌≡◌, map, Contains, IfOk, IfSome, OnOk
 ghost use Rattle.hda_controller.specs.Hearing.{AreHeardAs};
 ghost use Rattle.device_core.specs.Codecs.{addresses_of};
 
-use codec_sound::Heard;
 use hda_controller::{Controller, most_items};
 use hda_files::{Machine, read_machine};
 use hda_registers::Width;
 use hda_registers::places::{
     CORBCTL, CORBWP, GCTL, OUTPUT_DESCRIPTOR, SDBDPL, SDCBL, SDCTL, SDFMT, SDLVI,
 };
+use heard_frames::Heard;
 use heard_lists::HeardLists;
 use std::alloc::Global;
 use std::test::Fail;

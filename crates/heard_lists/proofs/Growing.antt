@@ -13,10 +13,10 @@ use Rattle.stream_format.specs.Layouts.{Layout, layout_of}
 use Rattle.world_streams.specs.Output.{Sent, Missed}
 use Rattle.hda_world.specs.Worlds.{CarriedFrame}
 use Rattle.codec_sound.specs.declared.signals.Signal.{Signal}
-use Rattle.codec_sound.specs.declared.heard.Heard.{Heard}
-use Rattle.codec_sound.specs.declared.heard.Heard.TheVariants.{Hole}
-use Rattle.codec_sound.specs.HeardLists.{signal_in_as, heard_in, frame_items_as, block_at, block_size, item_of, heard_as}
-use Rattle.codec_sound.proofs.Callers.{heard-append, items-missed, items-empty}
+use Rattle.heard_frames.specs.declared.heard.Heard.{Heard}
+use Rattle.heard_frames.specs.declared.heard.Heard.TheVariants.{Hole}
+use Rattle.heard_frames.specs.HeardLists.{signal_in_as, heard_in, frame_items_as, block_at, block_size, item_of, heard_as}
+use Rattle.heard_frames.proofs.Callers.{heard-append, items-missed, items-empty}
 use Rattle.route_planner.specs.declared.pin_kind.PinKind.{PinKind}
 use Rattle.route_planner.specs.Order.{IsOrderAs}
 use Rattle.heard_lists.specs.Listings.{HasRoom, with_blocks, Listing, AreListsAs, AreEmpty, places_of, places_in, is_of}

@@ -3,9 +3,9 @@ use Rattle.std.proofs.Common.{◌≡◌, ◌<◌, ◌+◌, ◌*◌, ◌/◌, ℕ
 use Rattle.std.proofs.Common.{length-append}
 use Rattle.std.proofs.Math.Nat.{mul-div_cancel, mul-add-div_right}
 use Rattle.stream_format.specs.Layouts.{Layout}
-use Rattle.codec_sound.specs.declared.heard.Heard.{Heard}
+use Rattle.heard_frames.specs.declared.heard.Heard.{Heard}
 use Rattle.codec_sound.specs.declared.signals.Signal.{Signal}
-use Rattle.codec_sound.specs.HeardLists.{block_size}
+use Rattle.heard_frames.specs.HeardLists.{block_size}
 use Rattle.heard_lists.specs.Listings.{Listing, items_before, with_blocks, with_items}
 use Rattle.heard_lists.proofs.Growing.{with_both}
 use Rattle.heard_lists.proofs.Pieced.{before-on}

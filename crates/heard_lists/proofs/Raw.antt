@@ -17,9 +17,9 @@ use Rattle.stream_format.specs.declared.format.Format.{Format}
 use Rattle.stream_format.specs.Cadence.{block_bytes, container_bytes}
 use Rattle.stream_format.specs.Layouts.{layout}
 use Rattle.stream_format.specs.Samples.{container_number}
-use Rattle.codec_sound.specs.declared.heard.Heard.{Heard}
+use Rattle.heard_frames.specs.declared.heard.Heard.{Heard}
 use Rattle.codec_sound.specs.declared.signals.Signal.TheVariants.{Pair}
-use Rattle.codec_sound.specs.HeardLists.{block_at, item_of}
+use Rattle.heard_frames.specs.HeardLists.{block_at, item_of}
 use Rattle.heard_lists.specs.Listings.{items_before}
 use Rattle.heard_lists.specs.Stretches.{sample_bytes, sound_bytes}
 use Rattle.heard_lists.proofs.Growing.{before-more}

@@ -4,10 +4,10 @@ use Rattle.std.specs.List.{range_with_len}
 use Rattle.std.proofs.lemmas.List.{length-replicate, length-map, get_or-append-add, get_or_append_left, get_or-append_right, get_or-replicate, get_or-map, drop-drop, length-drop}
 use Rattle.std.proofs.lemmas.List.FromFn.{get_or-range_with_len, length-range_with_len}
 use Rattle.stream_format.specs.Layouts.{Layout, layout}
-use Rattle.codec_sound.specs.declared.heard.Heard.{Heard}
-use Rattle.codec_sound.specs.declared.heard.Heard.TheVariants.{Hole}
+use Rattle.heard_frames.specs.declared.heard.Heard.{Heard}
+use Rattle.heard_frames.specs.declared.heard.Heard.TheVariants.{Hole}
 use Rattle.codec_sound.specs.declared.signals.Signal.{Signal}
-use Rattle.codec_sound.specs.HeardLists.{block_at, block_size, item_of}
+use Rattle.heard_frames.specs.HeardLists.{block_at, block_size, item_of}
 use Rattle.heard_lists.specs.declared.pieces.Piece.{Piece}
 use Rattle.heard_lists.specs.Listings.{items_before}
 use Rattle.heard_lists.specs.Pieces.{PinSignals, piece_size, piece_count, piece_items, pieces_items, pieces_size, pieces_count, listing_of}

@@ -9,11 +9,11 @@ use Rattle.std.proofs.lemmas.Bool.Decides.{nat_tests}
 use Rattle.std.proofs.lemmas.Grind.{flat_map-append}
 use Rattle.stream_format.specs.declared.format.Bits.{Bits}
 use Rattle.stream_format.specs.Layouts.{Layout}
-use Rattle.codec_sound.specs.declared.heard.Heard.{Heard}
-use Rattle.codec_sound.specs.declared.heard.Heard.TheVariants as heard
+use Rattle.heard_frames.specs.declared.heard.Heard.{Heard}
+use Rattle.heard_frames.specs.declared.heard.Heard.TheVariants as heard
 use Rattle.codec_sound.specs.declared.signals.Signal.{Signal}
 use Rattle.codec_sound.specs.declared.signals.Signal.TheVariants as signal
-use Rattle.codec_sound.specs.HeardLists.{block_at, block_size, item_of}
+use Rattle.heard_frames.specs.HeardLists.{block_at, block_size, item_of}
 use Rattle.std.specs.List.{range_with_len}
 use Rattle.std.specs.Prelude.{map}
 use Rattle.heard_lists.specs.Listings.{items_before}

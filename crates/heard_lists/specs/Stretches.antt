@@ -4,8 +4,8 @@ use Rattle.std.specs.List.{flat_map}
 use Rattle.std.specs.Int.{bytes_low_first, cast_unsigned, w32}
 use Rattle.stream_format.specs.declared.format.Bits.{Bits}
 use Rattle.stream_format.specs.Cadence.{container_bytes}
-use Rattle.codec_sound.specs.declared.heard.Heard.{Heard}
-use Rattle.codec_sound.specs.declared.heard.Heard.TheVariants as heard
+use Rattle.heard_frames.specs.declared.heard.Heard.{Heard}
+use Rattle.heard_frames.specs.declared.heard.Heard.TheVariants as heard
 use Rattle.codec_sound.specs.declared.signals.Signal.{Signal}
 use Rattle.codec_sound.specs.declared.signals.Signal.TheVariants as signal
 use Rattle.heard_lists.specs.declared.stretches.Kind.{Kind}

@@ -3,8 +3,9 @@ ghost use Rattle.std.specs.Prelude.{◌≡◌, ◌≤◌, ◌<◌, ◌++◌, [],
 ghost use Rattle.codec_sound.specs.declared.signals.Signal.TheVariants.{Silence};
 ghost use Rattle.heard_lists.specs.Pieces.{PinSignals, with_signal, without_signals};
 
-use codec_sound::{Heard, Signal};
+use codec_sound::Signal;
 use hda_items::Items;
+use heard_frames::Heard;
 use std::alloc::{AllocError, Global};
 use std::marker::Model;
 

@@ -1,7 +1,7 @@
 //! What a pin heard, read item by item.
 ghost use Rattle.std.specs.Prelude.{◌≡◌, ◌≤◌, ◌<◌, ◌+◌, ◌^◌, ◌++◌, ◌∷◌, ℕ, length, drop, replicate, get_or};
 ghost use Rattle.std.specs.List.{AllZip};
-ghost use Rattle.codec_sound.specs.declared.heard.Heard.TheVariants.{Hole, Quiet};
+ghost use Rattle.heard_frames.specs.declared.heard.Heard.TheVariants.{Hole, Quiet};
 ghost use Rattle.codec_sound.specs.Signals.{IsAmong};
 ghost use Rattle.stream_format.specs.Layouts.{layout};
 ghost use Rattle.heard_lists.specs.Listings.{items_before};
@@ -11,7 +11,8 @@ ghost use Rattle.heard_lists.specs.Readers.{IsStart};
 
 use crate::blocks::item;
 use crate::pieces::{Piece, PieceStart};
-use codec_sound::{Heard, Signal};
+use codec_sound::Signal;
+use heard_frames::Heard;
 use std::marker::Model;
 
 /// What a pin heard, to be read item by item, oldest first. Contracts see the items that are left. This project's own.
@@ -30,8 +31,8 @@ pub struct HeardReader<'a> {
 
 impl<'a> Model for HeardReader<'a> {
     ghost use Rattle.std.specs.Prelude.{List, ◌++◌, drop, replicate};
-    ghost use Rattle.codec_sound.specs.declared.heard.Heard.{Heard};
-    ghost use Rattle.codec_sound.specs.declared.heard.Heard.TheVariants.{Hole};
+    ghost use Rattle.heard_frames.specs.declared.heard.Heard.{Heard};
+    ghost use Rattle.heard_frames.specs.declared.heard.Heard.TheVariants.{Hole};
     ghost use Rattle.heard_lists.specs.Pieces.{pieces_items};
     ghost use Rattle.heard_lists.specs.Readers.{IsReader};
 

@@ -4,7 +4,7 @@ ghost use Rattle.std.specs.Prelude.{drop, replicate, take};
 ghost use Rattle.std.specs.List.{AllZip, flat_map};
 ghost use Rattle.stream_format.specs.Cadence.{block_bytes, container_bytes};
 ghost use Rattle.stream_format.specs.Layouts.{layout};
-ghost use Rattle.codec_sound.specs.declared.heard.Heard.TheVariants as heard;
+ghost use Rattle.heard_frames.specs.declared.heard.Heard.TheVariants as heard;
 ghost use Rattle.codec_sound.specs.declared.signals.Signal.TheVariants as variant;
 ghost use Rattle.codec_sound.specs.Signals.{IsAmong};
 ghost use Rattle.heard_lists.specs.Listings.{items_before};

@@ -4,7 +4,7 @@ use Rattle.std.proofs.Math.Nat.{add-mul-div_left, mul-le-mul_right}
 use Rattle.std.proofs.lemmas.Nat.{div-mul-add}
 use Rattle.std.proofs.lemmas.List.{same_lists, take-append-le, drop-append-le, get_or_append_left, get_or-append_right}
 use Rattle.std.proofs.lemmas.List.FromFn.{length-map-range_with_len, get_or-map-range_with_len}
-use Rattle.codec_sound.specs.HeardLists.{block_at, blocks}
+use Rattle.heard_frames.specs.HeardLists.{block_at, blocks}
 
 -- how many they are
 blocks_number : (size : ℕ) (bytes : List ℕ) → length (blocks size bytes) ≡ length bytes / size

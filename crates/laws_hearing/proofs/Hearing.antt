@@ -14,8 +14,8 @@ use Rattle.hda_world.specs.Worlds.{CarriedFrame, codec_at}
 use Rattle.hda_world.specs.Streaming.{bytes_of, carried_bytes}
 use Rattle.codec_sound.specs.declared.signals.Signal.{Signal}
 use Rattle.codec_sound.specs.declared.signals.Signal.TheVariants.{Pair}
-use Rattle.codec_sound.specs.declared.heard.Heard.{Heard}
-use Rattle.codec_sound.specs.HeardLists.{block_at, block_size, blocks, item_of, heard_in, signal_with_as, signal_in_as, frame_items_as, heard_as}
+use Rattle.heard_frames.specs.declared.heard.Heard.{Heard}
+use Rattle.heard_frames.specs.HeardLists.{block_at, block_size, blocks, item_of, heard_in, signal_with_as, signal_in_as, frame_items_as, heard_as}
 use Rattle.laws_hearing.specs.Plays.{is_hole, without_holes}
 use Rattle.laws_hearing.specs.Steady.{settings_of, IsSteadyFrame}
 use Rattle.laws_hearing.proofs.Blocks.{blocks_append}

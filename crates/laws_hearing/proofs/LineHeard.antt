@@ -14,9 +14,9 @@ use Rattle.hda_world.specs.Worlds.{World, CarriedFrame, codec_at}
 use Rattle.hda_world.specs.Streaming.{HasSent}
 use Rattle.codec_sound.specs.declared.signals.Signal.{Signal}
 use Rattle.codec_sound.specs.declared.signals.Signal.TheVariants.{Pair}
-use Rattle.codec_sound.specs.declared.heard.Heard.{Heard}
-use Rattle.codec_sound.specs.declared.heard.Heard.TheVariants.{Hole}
-use Rattle.codec_sound.specs.HeardLists.{block_size, blocks, item_of, heard_in, signal_with_as, frame_items_as, heard_as}
+use Rattle.heard_frames.specs.declared.heard.Heard.{Heard}
+use Rattle.heard_frames.specs.declared.heard.Heard.TheVariants.{Hole}
+use Rattle.heard_frames.specs.HeardLists.{block_size, blocks, item_of, heard_in, signal_with_as, frame_items_as, heard_as}
 use Rattle.period_writer.specs.declared.course.Ran.TheVariants as ran
 use Rattle.period_writer.specs.Runs.{Tally}
 use Rattle.period_writer.specs.Lines.{line_of}

@@ -7,9 +7,9 @@ use Rattle.std.proofs.lemmas.Grind.{same_number_lists}
 use Rattle.std.proofs.lemmas.List.FromFn.{length-map-range_with_len, get_or-map-range_with_len}
 use Rattle.stream_format.specs.Layouts.{Layout}
 use Rattle.codec_sound.specs.declared.signals.Signal.TheVariants.{Pair}
-use Rattle.codec_sound.specs.declared.heard.Heard.{Heard}
-use Rattle.codec_sound.specs.declared.heard.Heard.TheVariants.{Hole}
-use Rattle.codec_sound.specs.HeardLists.{block_at, block_size, blocks, item_of}
+use Rattle.heard_frames.specs.declared.heard.Heard.{Heard}
+use Rattle.heard_frames.specs.declared.heard.Heard.TheVariants.{Hole}
+use Rattle.heard_frames.specs.HeardLists.{block_at, block_size, blocks, item_of}
 use Rattle.period_writer.specs.declared.course.Ran.TheVariants as ran
 use Rattle.laws_hearing.specs.Plays.{sound_at, sounds, without_holes, Plays, PlaysFront}
 

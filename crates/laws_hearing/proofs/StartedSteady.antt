@@ -7,7 +7,7 @@ use Rattle.stream_format.specs.Layouts.{layout}
 use Rattle.world_streams.specs.Streams.{StreamState, begun}
 use Rattle.hda_world.specs.Worlds.{World, CarriedFrame}
 use Rattle.hda_world.specs.Streaming.{AreSent, HasSent, carried_bytes}
-use Rattle.codec_sound.specs.HeardLists.{block_size}
+use Rattle.heard_frames.specs.HeardLists.{block_size}
 use Rattle.period_writer.specs.Runs.{Tally}
 use Rattle.period_writer.specs.Standing.{Ring}
 use Rattle.period_writer.specs.Owning.{IsPlaying}

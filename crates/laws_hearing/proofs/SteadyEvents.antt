@@ -15,7 +15,7 @@ use Rattle.hda_world.specs.Worlds.{World}
 use Rattle.hda_world.specs.Events.{Event, Stepped, Begin, End, Read, Write, DmaRead, DmaWrite, happens, after, after_write}
 use Rattle.hda_world.specs.Streaming.{HasSent}
 use Rattle.hda_world.proofs.Callers.{kept_step, plain_write, keeps_sent, write_keeps_order}
-use Rattle.codec_sound.specs.HeardLists.{block_size}
+use Rattle.heard_frames.specs.HeardLists.{block_size}
 use Rattle.laws_hearing.specs.Steady.{settings_of, IsSteadyFrame, Steady, IsStatusOrStop, LeavesSteady}
 use Rattle.laws_hearing.proofs.Steadying.{steady_kept}
 use Rattle.period_writer.proofs.Callers.{write-ready}

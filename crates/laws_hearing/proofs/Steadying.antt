@@ -19,7 +19,7 @@ use Rattle.hda_world.specs.Steps.{passed, after_steps}
 use Rattle.hda_world.specs.Kept.{Kept, KeptByFrames, unmoved}
 use Rattle.hda_world.specs.Streaming.{bytes_of}
 use Rattle.hda_world.proofs.Callers.{kept_steps, frames_after, passed_global}
-use Rattle.codec_sound.specs.HeardLists.{block_size}
+use Rattle.heard_frames.specs.HeardLists.{block_size}
 use Rattle.laws_hearing.specs.Steady.{settings_of, IsSteadyFrame, SteadyBy, Steady}
 
 -- ---- codecs

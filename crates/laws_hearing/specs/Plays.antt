@@ -5,9 +5,9 @@ use Rattle.std.specs.Prelude.{replicate, get_or}
 use Rattle.std.specs.List.{range_with_len}
 use Rattle.stream_format.specs.Layouts.{Layout}
 use Rattle.codec_sound.specs.declared.signals.Signal.TheVariants.{Pair}
-use Rattle.codec_sound.specs.declared.heard.Heard.{Heard}
-use Rattle.codec_sound.specs.declared.heard.Heard.TheVariants.{Sound, Quiet, Hole, Altered}
-use Rattle.codec_sound.specs.HeardLists.{block_at, block_size, item_of}
+use Rattle.heard_frames.specs.declared.heard.Heard.{Heard}
+use Rattle.heard_frames.specs.declared.heard.Heard.TheVariants.{Sound, Quiet, Hole, Altered}
+use Rattle.heard_frames.specs.HeardLists.{block_at, block_size, item_of}
 use Rattle.period_writer.specs.declared.course.Ran.{Ran}
 use Rattle.period_writer.specs.declared.course.Ran.TheVariants as ran
 

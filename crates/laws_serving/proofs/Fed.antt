@@ -14,7 +14,7 @@ use Rattle.hda_registers.specs.Laws.{IsBesideStreams}
 use Rattle.hda_registers.proofs.Callers.{read-output_position}
 use Rattle.stream_format.specs.Layouts.{Layout, layout_of}
 use Rattle.world_streams.specs.Streams.{most_by}
-use Rattle.codec_sound.specs.HeardLists.{block_size}
+use Rattle.heard_frames.specs.HeardLists.{block_size}
 use Rattle.hda_world.specs.Worlds.{World, CarriedFrame}
 use Rattle.hda_world.specs.Events.{Event, Stepped, Begin, End, Read, Write, DmaRead, DmaWrite, AreHonest, after}
 use Rattle.hda_world.specs.Streaming.{bytes_of, carried_bytes}

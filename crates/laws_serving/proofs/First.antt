@@ -13,7 +13,7 @@ use Rattle.hda_registers.specs.Access.{written, placed, stream_written, rose}
 use Rattle.stream_format.specs.Layouts.{Layout}
 use Rattle.stream_format.specs.Words.{format_word}
 use Rattle.world_streams.specs.Streams.{begun}
-use Rattle.codec_sound.specs.HeardLists.{block_size}
+use Rattle.heard_frames.specs.HeardLists.{block_size}
 use Rattle.hda_world.specs.Worlds.{World, TakenCommand}
 use Rattle.hda_world.specs.Steps.{after_steps}
 use Rattle.hda_world.specs.Events.{Event, Stepped, Begin, End, Read, Write, DmaRead, DmaWrite, AreHonest, happens, after, after_write}

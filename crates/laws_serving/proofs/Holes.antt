@@ -6,7 +6,7 @@ use Rattle.stream_format.specs.Layouts.{Layout, layout_of}
 use Rattle.world_streams.specs.Output.{Carriage, Sent, Missed}
 use Rattle.codec_sound.specs.declared.signals.Signal.{Signal}
 use Rattle.codec_sound.specs.declared.signals.Signal.TheVariants as variant
-use Rattle.codec_sound.specs.HeardLists.{block_size, blocks, item_of, items_sent, heard_in, signal_in, frame_items, heard}
+use Rattle.heard_frames.specs.HeardLists.{block_size, blocks, item_of, items_sent, heard_in, signal_in, frame_items, heard}
 use Rattle.hda_world.specs.Worlds.{CarriedFrame}
 use Rattle.laws_serving.specs.Turns.{HasSentBytes, CarriedBytes, IsNoHole}
 

@@ -15,7 +15,7 @@ use Rattle.hda_registers.specs.Fields.{is_running, list_address}
 use Rattle.world_streams.specs.Lists.{is_good}
 use Rattle.world_steps.specs.declared.Step.{Step}
 use Rattle.world_steps.specs.declared.Step.TheVariants as step
-use Rattle.codec_sound.specs.HeardLists.{block_size}
+use Rattle.heard_frames.specs.HeardLists.{block_size}
 use Rattle.hda_world.specs.Worlds.{World, output_of}
 use Rattle.hda_world.specs.Steps.{after_step, after_steps, frame_step, output_framed, output_fetched, passed, times}
 use Rattle.hda_world.specs.Events.{Event, Stepped, Begin, End, Read, Write, DmaRead, DmaWrite, IsNoStep, happens, after}

@@ -3,7 +3,7 @@
 use Rattle.std.specs.Prelude.{◌≡◌, ◌≤◌, ◌<◌, ℕ, ◌+◌, ◌*◌, false, List, [], ◌∷◌, ◌++◌, All, length, sum, take}
 use Rattle.world_steps.specs.declared.Step.TheVariants as step
 use Rattle.schedule_reader.specs.declared.schedule.DriverLine.{DriverLine}
-use Rattle.codec_sound.specs.declared.heard.Heard.{Heard}
+use Rattle.heard_frames.specs.declared.heard.Heard.{Heard}
 use Rattle.world_streams.specs.Output.{Carriage, Sent, Missed}
 use Rattle.hda_world.specs.Worlds.{World, CarriedFrame}
 use Rattle.laws_hearing.specs.Plays.{is_hole}

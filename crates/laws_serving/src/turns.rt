@@ -2,7 +2,7 @@
 ghost use Rattle.std.specs.Prelude.{◌≡◌, ◌≤◌, ◌+◌, ◌*◌, ℕ, true, List, All, length};
 ghost use Rattle.stream_format.specs.Cadence.{block_bytes};
 ghost use Rattle.stream_format.specs.declared.format.Rate.TheVariants.{R48};
-ghost use Rattle.codec_sound.specs.HeardLists.{heard};
+ghost use Rattle.heard_frames.specs.HeardLists.{heard};
 ghost use Rattle.schedule_reader.specs.declared.schedule.Item.{Item};
 ghost use Rattle.hda_world.specs.Worlds.{CarriedFrame};
 ghost use Rattle.hda_world.specs.Tellings.{Telling, world_of};

@@ -8,7 +8,7 @@ use Rattle.hda_registers.specs.declared.places.TheConstants.{WALCLK}
 use Rattle.stream_format.specs.Layouts.{layout}
 use Rattle.stream_format.specs.Words.{format_word}
 use Rattle.world_streams.specs.Streams.{begun}
-use Rattle.codec_sound.specs.HeardLists.{block_size}
+use Rattle.heard_frames.specs.HeardLists.{block_size}
 use Rattle.hda_world.specs.Worlds.{World, CarriedFrame}
 use Rattle.hda_world.specs.Events.{Event, Read, happens, after}
 use Rattle.hda_world.specs.Streaming.{HasSent}

@@ -19,8 +19,8 @@ use Rattle.stream_format.specs.Words.{format_word}
 use Rattle.stream_format.proofs.Callers.{read_back}
 use Rattle.world_streams.proofs.Callers.{some_block}
 use Rattle.codec_sound.specs.declared.signals.Signal.TheVariants.{Pair, Silence}
-use Rattle.codec_sound.specs.declared.heard.Heard.{Heard}
-use Rattle.codec_sound.specs.HeardLists.{block_size, signal_with_as, heard_as}
+use Rattle.heard_frames.specs.declared.heard.Heard.{Heard}
+use Rattle.heard_frames.specs.HeardLists.{block_size, signal_with_as, heard_as}
 use Rattle.hda_world.specs.Worlds.{World, CarriedFrame, codec_at}
 use Rattle.hda_world.specs.Events.{Event, Read, Write, happens, AreHonest, IsNoStep}
 use Rattle.hda_world.specs.Streaming.{HasSent}

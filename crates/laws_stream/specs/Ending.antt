@@ -6,7 +6,7 @@ use Rattle.stream_format.specs.Words.{format_word}
 use Rattle.stream_format.specs.Layouts.{layout}
 use Rattle.route_planner.specs.declared.pin_kind.PinKind.{PinKind}
 use Rattle.codec_sound.specs.declared.signals.Signal.TheVariants.{Pair, Silence}
-use Rattle.codec_sound.specs.HeardLists.{block_size, heard_as, signal_with_as}
+use Rattle.heard_frames.specs.HeardLists.{block_size, heard_as, signal_with_as}
 use Rattle.hda_world.specs.Worlds.{CarriedFrame, codec_at}
 use Rattle.period_writer.specs.declared.course.Ran.TheVariants as ran
 use Rattle.period_writer.specs.Runs.{Tally}

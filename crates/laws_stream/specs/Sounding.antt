@@ -3,7 +3,7 @@ use Rattle.std.specs.Prelude.{◌≡◌, true, ℕ, List}
 use Rattle.codec_graph.specs.CodecStates.{CodecState}
 use Rattle.stream_format.specs.Words.{format_word}
 use Rattle.stream_format.specs.Layouts.{layout}
-use Rattle.codec_sound.specs.HeardLists.{block_size}
+use Rattle.heard_frames.specs.HeardLists.{block_size}
 use Rattle.hda_world.specs.Worlds.{World}
 use Rattle.hda_world.specs.Streaming.{HasSent}
 use Rattle.hda_world.specs.Tellings.{Telling, world_of}

@@ -16,7 +16,7 @@ use Rattle.codec_sound.specs.declared.signals.Signal.{Signal}
 use Rattle.codec_sound.specs.declared.signals.Signal.TheVariants.{Pair, Silence}
 use Rattle.route_planner.specs.declared.pin_kind.PinKind.{PinKind}
 use Rattle.route_planner.specs.declared.pin_kind.PinKind.TheVariants.{Analog, Digital}
-use Rattle.codec_sound.specs.HeardLists.{heard_as, signal_with_as}
+use Rattle.heard_frames.specs.HeardLists.{heard_as, signal_with_as}
 use Rattle.codec_sound.specs.Signals.{signal_as, stream_of}
 use Rattle.route_planner.specs.declared.routes.Route.{Route}
 use Rattle.route_planner.specs.declared.routes.Outcome.{Outcome}
@@ -33,7 +33,7 @@ use Rattle.hda_files.specs.declared.machine.CodecFile.{CodecFile}
 use Rattle.hda_world.specs.Worlds.{CarriedFrame, codec_at}
 use Rattle.period_writer.specs.Runs.{Tally, tally_opened}
 use Rattle.laws_hearing.specs.Plays.{IsSilent, WasSent}
-use Rattle.codec_sound.specs.declared.heard.Heard.{Heard}
+use Rattle.heard_frames.specs.declared.heard.Heard.{Heard}
 use Rattle.period_writer.specs.declared.course.Ran.TheVariants as ran
 use Rattle.laws_bring_up.specs.SettingUp.{IsThere}
 use Rattle.laws_stream.specs.Ending.{HearTheLine}

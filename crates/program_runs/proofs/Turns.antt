@@ -4,7 +4,7 @@ use Rattle.std.specs.Prelude.{All}
 use Rattle.std.specs.List.{flat_map, zip}
 use Rattle.std.proofs.lemmas.List.Elements.{All-nil, All-append, All-map}
 use Rattle.codec_graph.specs.Cycles.{IsWellFormed}
-use Rattle.codec_sound.specs.HeardLists.{heard}
+use Rattle.heard_frames.specs.HeardLists.{heard}
 use Rattle.stream_format.specs.Cadence.{block_bytes}
 use Rattle.stream_format.specs.declared.format.Rate.TheVariants.{R48}
 use Rattle.route_planner.specs.declared.pin_kind.PinKind.TheVariants.{Analog}

@@ -2,7 +2,7 @@
 ghost use Rattle.std.specs.Prelude.{◌≡◌, ◌++◌, IfOk, OnOk, sum_by, count_by, string_bytes};
 ghost use Rattle.program_runs.specs.MadeLines as spec;
 
-use codec_sound::Heard;
+use heard_frames::Heard;
 use heard_lists::{HeardPins, PinHeard};
 use period_writer::Span;
 use sound_report::Played;

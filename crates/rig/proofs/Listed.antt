@@ -6,7 +6,7 @@ use Rattle.std.specs.Coded.{Coded-set, coded_bool}
 use Rattle.std.proofs.Math.Logic.{∥∥₁_elim}
 use Rattle.std.proofs.lemmas.List.Elements.{Contains-append_left, Contains-append_right, recursion_from_All}
 use Rattle.std.proofs.lemmas.Bool.{or_right}
-use Rattle.codec_sound.specs.HeardLists.{heard_as}
+use Rattle.heard_frames.specs.HeardLists.{heard_as}
 use Rattle.route_planner.specs.Order.{IsOrderAs}
 use Rattle.route_planner.specs.declared.pin_kind.PinKind.{PinKind}
 use Rattle.hda_world.specs.Worlds.{CarriedFrame, codec_at}

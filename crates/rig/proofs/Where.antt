@@ -11,9 +11,9 @@ use Rattle.std.proofs.lemmas.List.Elements.{All-map}
 use Rattle.std.proofs.lemmas.List.{get_or-map, length-map}
 use Rattle.hda_registers.specs.declared.shapes.Width.{Width}
 use Rattle.world_rings.specs.Memory.{stored}
-use Rattle.codec_sound.specs.declared.heard.Heard.{Heard}
-use Rattle.codec_sound.specs.HeardLists.{heard_as}
-use Rattle.codec_sound.proofs.Callers.{heard-append}
+use Rattle.heard_frames.specs.declared.heard.Heard.{Heard}
+use Rattle.heard_frames.specs.HeardLists.{heard_as}
+use Rattle.heard_frames.proofs.Callers.{heard-append}
 use Rattle.world_steps.specs.declared.Step.{Step}
 use Rattle.hda_world.specs.Worlds.{World, CarriedFrame}
 use Rattle.hda_world.specs.Steps.{after_step}

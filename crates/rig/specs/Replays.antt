@@ -2,7 +2,7 @@
 use Rattle.std.specs.Prelude.{◌≡◌, ℕ, List, All, replicate}
 use Rattle.route_planner.specs.declared.pin_kind.PinKind.{PinKind}
 use Rattle.route_planner.specs.declared.pin_kind.PinKind.TheVariants.{Analog}
-use Rattle.codec_sound.specs.HeardLists.{heard_as}
+use Rattle.heard_frames.specs.HeardLists.{heard_as}
 use Rattle.hda_files.specs.declared.machine.Machine.{Machine}
 use Rattle.hda_world.specs.Worlds.{World}
 use Rattle.hda_world.specs.Events.{Event, after, AreHonest}

@@ -1,7 +1,7 @@
 -- What pins heard, column by column. This project's own.
 use Rattle.std.specs.Prelude.{ℕ, ◌+◌, ◌*◌, Bool, true, false, min, max, List, [], ◌∷◌, ◌++◌, length, slice_range, take}
 use Rattle.std.specs.List.{list_any}
-use Rattle.codec_sound.specs.declared.heard.Heard.{Heard}
+use Rattle.heard_frames.specs.declared.heard.Heard.{Heard}
 use Rattle.heard_lists.specs.declared.stretches.Kind.{Kind}
 use Rattle.heard_lists.specs.declared.stretches.Kind.TheVariants as kind
 use Rattle.heard_lists.specs.declared.pin_list.PinHeard.{PinHeard}

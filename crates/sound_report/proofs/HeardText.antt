@@ -8,8 +8,8 @@ use Rattle.std.proofs.lemmas.Bool.{cases_lt}
 use Rattle.std.proofs.lemmas.Grind.{flat_map-append}
 use Rattle.std.proofs.Math.Seq.{take-append_seam, drop-append_seam}
 use Rattle.stream_format.specs.declared.format.Bits.{Bits}
-use Rattle.codec_sound.specs.declared.heard.Heard.{Heard}
-use Rattle.codec_sound.specs.declared.heard.Heard.TheVariants as heard
+use Rattle.heard_frames.specs.declared.heard.Heard.{Heard}
+use Rattle.heard_frames.specs.declared.heard.Heard.TheVariants as heard
 use Rattle.heard_lists.specs.declared.stretches.Kind.{Kind}
 use Rattle.heard_lists.specs.declared.stretches.Kind.TheVariants as kind
 use Rattle.heard_lists.specs.declared.stretches.Stretch.{Stretch}

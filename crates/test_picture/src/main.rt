@@ -2,11 +2,11 @@
 //! the pins heard. Prints a line for each run.
 #![tactic(auto)]
 
-use codec_sound::Heard;
 use hda_outside::{Fault, FileShelf, OutSink, Shelf, Sink, write_all};
 use hda_program::{Answer, answer_request};
 use hda_registers::places::{OUTPUT_DESCRIPTOR, SDLPIB};
 use hda_world::Entry;
+use heard_frames::Heard;
 use program_words::read_run;
 use run_picture::{Meter, meter_after, run_picture};
 use sound_report::Played;

@@ -5,7 +5,7 @@ ghost use Rattle.hda_world.specs.Worlds.{World};
 ghost use Rattle.hda_world.specs.Steps as steps;
 ghost use Rattle.stream_format.specs.Cadence.{bytes_of_block};
 ghost use Rattle.stream_format.specs.Layouts.{Layout, layout_of};
-ghost use Rattle.codec_sound.specs.declared.heard.Heard.TheVariants.{Hole};
+ghost use Rattle.heard_frames.specs.declared.heard.Heard.TheVariants.{Hole};
 ghost use Rattle.heard_lists.specs.Listings.{HasRoom, with_blocks, with_items};
 ghost use Rattle.hda_controller.specs.Controllers.{StandsFor, signal_now};
 ghost use Rattle.hda_controller.specs.Hearing.{AreDue, AreHeardAs, GrewAs};

@@ -1,6 +1,6 @@
 //! What a rig has.
 ghost use Rattle.std.specs.Prelude.{◌≡◌, true, IfOk};
-ghost use Rattle.codec_sound.specs.HeardLists.{heard_as};
+ghost use Rattle.heard_frames.specs.HeardLists.{heard_as};
 ghost use Rattle.hda_world.specs.JournalEvents.{events_of};
 ghost use Rattle.hda_world.specs.Tellings.{world_of};
 ghost use Rattle.heard_lists.specs.Listings.{AreListsAs, graphs_in};
@@ -11,9 +11,9 @@ ghost use Rattle.rig.specs.Rigs.{telling_of, setting_of};
 
 use crate::recording::Recording;
 use crate::rig::Rig;
-use codec_sound::Heard;
 use hda_files::Machine;
 use hda_world::Journal;
+use heard_frames::Heard;
 use heard_lists::HeardLists;
 use std::alloc::{AllocError, Global};
 

@@ -1,5 +1,5 @@
 use Rattle.std.proofs.Common.{List, get_or, Some, drop, map, sym, ap, ◌∙◌}
-use Rattle.codec_sound.specs.declared.heard.Heard.{Heard}
+use Rattle.heard_frames.specs.declared.heard.Heard.{Heard}
 use Rattle.hda_model.specs.Copies.{copied, item_of}
 use Rattle.hda_model.proofs.Finding.{nowhere, count_there, count_none, list_there, list_none}
 use Rattle.hda_model.proofs.Copying.{copied_nowhere}

@@ -2,8 +2,8 @@ use Rattle.std.proofs.Common.{◌≡◌, ◌+◌, ◌-◌, ◌*◌, ℕ, List, t
 use Rattle.std.proofs.lemmas.List.{drop-drop}
 use Rattle.stream_format.specs.Cadence.{block_bytes}
 use Rattle.stream_format.specs.Layouts.{layout}
-use Rattle.codec_sound.specs.declared.heard.Heard.TheVariants.{Quiet}
-use Rattle.codec_sound.specs.HeardLists.{block_at, item_of}
+use Rattle.heard_frames.specs.declared.heard.Heard.TheVariants.{Quiet}
+use Rattle.heard_frames.specs.HeardLists.{block_at, item_of}
 use Rattle.heard_lists.proofs.Reading.{before-at}
 use Rattle.heard_lists.proofs.reader.block_in.Goals as goal
 

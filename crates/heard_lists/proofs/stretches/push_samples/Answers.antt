@@ -6,9 +6,9 @@ use Rattle.std.proofs.lemmas.List.{append_assoc, append-nil}
 use Rattle.std.proofs.lemmas.Grind.{flat_map-append}
 use Rattle.stream_format.specs.Cadence.{block_bytes}
 use Rattle.stream_format.specs.Layouts.{layout}
-use Rattle.codec_sound.specs.declared.heard.Heard.{Heard}
+use Rattle.heard_frames.specs.declared.heard.Heard.{Heard}
 use Rattle.codec_sound.specs.declared.signals.Signal.TheVariants.{Pair}
-use Rattle.codec_sound.specs.HeardLists.{block_at, item_of, sample_in}
+use Rattle.heard_frames.specs.HeardLists.{block_at, item_of, sample_in}
 use Rattle.heard_lists.specs.Listings.{items_before}
 use Rattle.heard_lists.specs.Stretches.{sample_bytes, sound_bytes}
 use Rattle.heard_lists.proofs.Growing.{before-more, piece_of}

@@ -2,7 +2,7 @@ use Rattle.std.proofs.Common.{◌≡◌, ◌++◌, [], ℕ, List, false, inl, in
 use Rattle.std.specs.List.{flat_map}
 use Rattle.std.proofs.lemmas.List.{append-nil}
 use Rattle.stream_format.specs.Layouts.{layout}
-use Rattle.codec_sound.specs.declared.heard.Heard.{Heard}
+use Rattle.heard_frames.specs.declared.heard.Heard.{Heard}
 use Rattle.codec_sound.specs.declared.signals.Signal.{Signal}
 use Rattle.heard_lists.specs.Listings.{items_before}
 use Rattle.heard_lists.specs.declared.stretches.Kind.TheVariants as kind

@@ -2,7 +2,7 @@ use Rattle.std.proofs.Common.{◌≡◌, ◌+◌, [], ◌∷◌, ℕ, List, drop
 use Rattle.hda_registers.specs.Fields.{Fields}
 use Rattle.world_streams.specs.Streams.{due}
 use Rattle.world_streams.specs.Output.{Missed, Sent}
-use Rattle.codec_sound.specs.declared.heard.Heard.TheVariants.{Hole}
+use Rattle.heard_frames.specs.declared.heard.Heard.TheVariants.{Hole}
 use Rattle.hda_world.specs.Worlds.{output_of}
 use Rattle.hda_world.specs.Steps.{frame_carried, frame_step}
 use Rattle.device_core.specs.Devices.{DeviceState, IsWorld}

@@ -1,5 +1,5 @@
 use Rattle.std.proofs.Common.{◌+◌, [], ◌∷◌, ℕ, List, map, sym, ap, subst, ◌∙◌, arith}
-use Rattle.codec_sound.specs.declared.heard.Heard.TheVariants.{Hole}
+use Rattle.heard_frames.specs.declared.heard.Heard.TheVariants.{Hole}
 use Rattle.heard_lists.specs.Listings.{Listing, HasRoom, with_items}
 use Rattle.hda_controller.specs.Hearing.{AreHeardAs}
 use Rattle.hda_controller.specs.Unheard.{block_count, heard_now, layout_now}

@@ -1,5 +1,5 @@
 use Rattle.std.proofs.Common.{◌++◌, List, get_or, ap, ◌∙◌}
-use Rattle.codec_sound.specs.declared.heard.Heard.{Heard}
+use Rattle.heard_frames.specs.declared.heard.Heard.{Heard}
 use Rattle.heard_lists.proofs.Placed.{any_list}
 use Rattle.heard_lists.proofs.lists.HeardLists.of.Goals as goal
 

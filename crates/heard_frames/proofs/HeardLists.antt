@@ -14,10 +14,10 @@ use Rattle.world_streams.specs.Output.{Sent, Missed}
 use Rattle.hda_world.specs.Worlds.{CarriedFrame}
 use Rattle.route_planner.specs.declared.pin_kind.PinKind.{PinKind}
 use Rattle.codec_sound.specs.declared.signals.Signal.{Signal}
-use Rattle.codec_sound.specs.declared.heard.Heard.{Heard}
-use Rattle.codec_sound.specs.declared.heard.Heard.TheVariants.{Hole}
+use Rattle.heard_frames.specs.declared.heard.Heard.{Heard}
+use Rattle.heard_frames.specs.declared.heard.Heard.TheVariants.{Hole}
 use Rattle.codec_sound.specs.Keeping.{signal_by_as}
-use Rattle.codec_sound.specs.HeardLists.{block_size, block_at, blocks, item_of, items_sent, heard_in, signal_with_as, signal_in_as, frame_items_as, heard_as}
+use Rattle.heard_frames.specs.HeardLists.{block_size, block_at, blocks, item_of, items_sent, heard_in, signal_with_as, signal_in_as, frame_items_as, heard_as}
 
 pub heard-append : (kind : PinKind) (address pin : ℕ) (before added : List CarriedFrame) → heard_as kind address pin (before ++ added) ≡ heard_as kind address pin before ++ heard_as kind address pin added
 heard-append kind address pin before added = flat_map-append (frame_items_as kind address pin) before added

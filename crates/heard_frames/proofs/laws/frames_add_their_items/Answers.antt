@@ -1,6 +1,6 @@
 use Rattle.route_planner.specs.declared.pin_kind.PinKind.TheVariants.{Analog}
-use Rattle.codec_sound.proofs.HeardLists.{items-missed, items-empty, length-items, item-of-block}
-use Rattle.codec_sound.proofs.laws.frames_add_their_items.Goals as goal
+use Rattle.heard_frames.proofs.HeardLists.{items-missed, items-empty, length-items, item-of-block}
+use Rattle.heard_frames.proofs.laws.frames_add_their_items.Goals as goal
 
 pub returns : goal.returns
 returns c = record {

@@ -1,5 +1,0 @@
-use Rattle.codec_sound.proofs.HeardLists.{signal_by-word}
-use Rattle.codec_sound.proofs.laws.kept_signals_of_each_kind_are_those_of_words.Goals as goal
-
-pub returns : goal.returns
-returns c = signal_by-word

@@ -1,0 +1,2 @@
+pub mod HeardLists
+pub mod Callers
