@@ -48,6 +48,14 @@ pub use Rattle.codec_graph.proofs.Reaching.{unmarked_count, unmarked_count-set}
 pub use Rattle.codec_graph.proofs.Reaching.{marked-set}
 -- fewer answers wait once one is dropped
 pub use Rattle.codec_graph.proofs.Sound.{answers-drop_answer}
+-- a candidate pin of a kind is a pin
+pub use Rattle.codec_graph.proofs.KindLemmas.{candidate_pin}
+-- no pin comes before itself
+pub use Rattle.codec_graph.proofs.SortedPins.{not_before}
+-- the candidate pins of a kind have one order
+pub use Rattle.codec_graph.proofs.OneOrder.{same_order}
+-- of two pins one comes before the other
+pub use Rattle.codec_graph.proofs.OneOrder.{asymmetric}
 
 -- a widget of a well-formed graph has a node identifier of seven bits
 pub node_below : (codec : RawCodec) (nid : ℕ) (node : RawNode) → IsWellFormed codec → node_at codec nid ≡ Some node → nid < node_identifiers

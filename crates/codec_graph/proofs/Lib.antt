@@ -14,5 +14,9 @@ pub mod Sound
 pub mod ListWords
 pub mod Plugging
 pub mod Defaults
+pub mod KindLemmas
+pub mod PlaceLemmas
+pub mod SortedPins
+pub mod OneOrder
 pub mod Callers
 mod Safety

@@ -5,6 +5,8 @@ pub mod Faults
 pub mod FaultText
 pub mod Cycles
 pub mod Candidates
+pub mod Kinds
+pub mod Order
 pub mod Settings
 pub mod VerbMeaning
 pub mod CodecStates
@@ -13,3 +15,4 @@ pub mod Checks
 pub mod Marks
 pub mod Openings
 pub mod SafeNodes
+pub mod Places

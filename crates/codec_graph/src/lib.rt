@@ -1,4 +1,5 @@
-//! The graph of a codec's widgets: its words as read, the normalised and checked graph, and its candidate pins.
+//! The graph of a codec's widgets: its words as read, the normalised and checked graph, and its candidate pins
+//! in order.
 #![tactic(auto)]
 
 mod amplifiers;
@@ -13,6 +14,9 @@ mod limits;
 mod listed;
 mod marks;
 mod parameters;
+mod pin_kind;
+mod pin_laws;
+mod pin_order;
 mod presence;
 mod raw;
 mod readable;
@@ -33,6 +37,9 @@ pub use limits::{
     MOST_AMPLIFIED, MOST_ANSWERS, MOST_ENTRIES, MOST_LISTED, MOST_UNSOLICITED, NODE_IDENTIFIERS,
 };
 pub use listed::FaultyList;
+pub use pin_kind::PinKind;
+pub use pin_laws::{one_order, one_order_of_each_kind};
+pub use pin_order::{UNCONNECTED, comes_before, digital_order, order, order_as};
 pub use presence::Presence;
 pub use raw::{GroupWords, RawCodec, RawNode};
 pub use settings::Settings;

@@ -6,8 +6,8 @@ use Rattle.codec_graph.specs.declared.raw.RawCodec.{RawCodec}
 use Rattle.codec_graph.specs.declared.controls.Control.TheVariants as control
 use Rattle.codec_graph.specs.Widget.{node_at, is_mixer, is_selector, is_stereo, has_output_amplifier, has_input_amplifier, most_amplified, amplifier_offset, output_amplifier_word, input_amplifier_word}
 use Rattle.codec_graph.specs.Settings.{Entries, setting_of}
-use Rattle.route_planner.specs.declared.pin_kind.PinKind.{PinKind}
-use Rattle.route_planner.specs.declared.pin_kind.PinKind.TheVariants.{Analog, Digital}
+use Rattle.codec_graph.specs.declared.pin_kind.PinKind.{PinKind}
+use Rattle.codec_graph.specs.declared.pin_kind.PinKind.TheVariants.{Analog, Digital}
 use Rattle.codec_sound.specs.declared.signals.Signal.{Signal}
 use Rattle.codec_sound.specs.declared.signals.Signal.TheVariants.{Silence, Pair, Altered}
 use Rattle.codec_sound.specs.declared.sources.Sources.{Sources}

@@ -6,7 +6,7 @@ use Rattle.codec_graph.specs.declared.raw.RawCodec.{RawCodec}
 use Rattle.codec_graph.specs.Widget.{is_mixer, is_stereo}
 use Rattle.codec_graph.specs.Settings.{Entries}
 use Rattle.verb_codes.specs.Words.{bits_of}
-use Rattle.route_planner.specs.declared.pin_kind.PinKind.TheVariants.{Digital}
+use Rattle.codec_graph.specs.declared.pin_kind.PinKind.TheVariants.{Digital}
 use Rattle.codec_sound.specs.declared.signals.Signal.{Signal}
 use Rattle.codec_sound.specs.declared.signals.Signal.TheVariants.{Silence, Pair, Altered}
 use Rattle.codec_sound.specs.declared.streams.LinkStream.{LinkStream}

@@ -9,7 +9,7 @@ use Rattle.codec_graph.specs.Widget.{node_at, is_inner}
 use Rattle.codec_graph.specs.Cycles.{IsWellFormed, inner_list_of, inner_list}
 use Rattle.codec_graph.specs.Settings.{Entries}
 use Rattle.codec_graph.proofs.Callers.{node_below, words_at, marked-set}
-use Rattle.route_planner.specs.declared.pin_kind.PinKind.{PinKind}
+use Rattle.codec_graph.specs.declared.pin_kind.PinKind.{PinKind}
 use Rattle.codec_sound.specs.declared.signals.Signal.{Signal}
 use Rattle.codec_sound.specs.declared.signals.Signal.TheVariants.{Silence}
 use Rattle.codec_sound.specs.declared.streams.LinkStream.{LinkStream}

@@ -13,8 +13,8 @@ use Rattle.codec_graph.specs.Widget.{node_at, is_output_converter, is_mixer, is_
 use Rattle.codec_graph.specs.Widget.{has_power_control}
 use Rattle.codec_graph.specs.Settings.{Entries, setting_of, has_eapd}
 use Rattle.stream_format.specs.declared.format.Format.{Format}
-use Rattle.route_planner.specs.declared.pin_kind.PinKind.{PinKind}
-use Rattle.route_planner.specs.declared.pin_kind.PinKind.TheVariants.{Analog, Digital}
+use Rattle.codec_graph.specs.declared.pin_kind.PinKind.{PinKind}
+use Rattle.codec_graph.specs.declared.pin_kind.PinKind.TheVariants.{Analog, Digital}
 use Rattle.stream_format.specs.Words.{format_word}
 use Rattle.codec_sound.specs.declared.signals.Signal.{Signal}
 use Rattle.codec_sound.specs.declared.signals.Signal.TheVariants.{Silence, Pair, Altered}

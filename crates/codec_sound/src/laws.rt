@@ -3,8 +3,8 @@ ghost use Rattle.std.specs.Prelude.{◌≡◌, ◌⊎◌, ◌||◌, ◌%◌, not
 ghost use Rattle.codec_graph.specs.declared.raw.RawCodec.{RawCodec};
 ghost use Rattle.codec_graph.specs.Cycles.{IsWellFormed};
 ghost use Rattle.codec_graph.specs.Settings.{Entries};
-ghost use Rattle.route_planner.specs.declared.pin_kind.PinKind.{PinKind};
-ghost use Rattle.route_planner.specs.declared.pin_kind.PinKind.TheVariants.{Digital};
+ghost use Rattle.codec_graph.specs.declared.pin_kind.PinKind.{PinKind};
+ghost use Rattle.codec_graph.specs.declared.pin_kind.PinKind.TheVariants.{Digital};
 ghost use Rattle.codec_graph.specs.declared.raw.RawNode.{RawNode};
 ghost use Rattle.codec_graph.specs.Widget.{is_mixer, is_stereo};
 ghost use Rattle.codec_sound.specs.declared.signals.Signal.{Signal};

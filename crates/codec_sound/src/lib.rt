@@ -14,14 +14,14 @@ mod streams;
 mod table;
 mod widgets;
 
+pub use codec_graph::digital_order;
 pub use in_heard::InHeard;
 pub use inward::{in_signal, is_taking};
 pub use kept::Kept;
 pub use laws::{
-    converters_hear_enabled_pins, digital_signals_need_digital_nodes, inward_signals_fit_the_step, pairs_are_among_the_channels,
-    pairs_of_each_kind_are_among_the_channels, signals_alone_fit_the_step,
-    signals_of_each_kind_fit_the_step,
+    converters_hear_enabled_pins, digital_signals_need_digital_nodes, inward_signals_fit_the_step,
+    pairs_are_among_the_channels, pairs_of_each_kind_are_among_the_channels,
+    signals_alone_fit_the_step, signals_of_each_kind_fit_the_step,
 };
 pub use pins::{digital_signal, signal};
-pub use route_planner::digital_order;
 pub use signals::Signal;

@@ -9,8 +9,7 @@ use crate::sources::Sources;
 use crate::streams::LinkStream;
 use crate::table::outputs;
 use crate::widgets::{is_foreign, is_off, selected};
-use codec_graph::{Control, Graph, RawCodec, RawNode, Settings, has_bit};
-use route_planner::PinKind;
+use codec_graph::{Control, Graph, PinKind, RawCodec, RawNode, Settings, has_bit};
 use stream_format::Format;
 
 /// The bit of the pin control that enables its output (HDA 1.0a, 7.3.3.13).

@@ -1,7 +1,7 @@
 //! Where signals begin: at output converters, and on the way in at pins.
 
 use crate::streams::LinkStream;
-use route_planner::PinKind;
+use codec_graph::PinKind;
 
 /// Where signals begin in a codec. This project's own.
 #[derive(Clone, Copy, Debug, PartialEq, Eq)]

@@ -8,8 +8,7 @@ use crate::amplifiers::{after_input, after_output, setting};
 use crate::signals::{Signal, Table};
 use crate::sources::Sources;
 use crate::streams::LinkStream;
-use codec_graph::{Control, RawCodec, RawNode, Settings, bits_of, has_bit};
-use route_planner::PinKind;
+use codec_graph::{Control, PinKind, RawCodec, RawNode, Settings, bits_of, has_bit};
 
 /// The bit of a digital converter's control that enables its output: DigEn (HDA 1.0a, 7.3.3.9).
 const DIGITAL_ENABLE: u32 = 0;

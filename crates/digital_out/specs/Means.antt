@@ -1,7 +1,7 @@
 -- What the set-up of digital outputs means for a stream, and that of the output pins of a kind. This project's own.
 use Rattle.std.specs.Prelude.{ℕ}
-use Rattle.route_planner.specs.declared.pin_kind.PinKind.{PinKind}
-use Rattle.route_planner.specs.declared.pin_kind.PinKind.TheVariants.{Digital}
+use Rattle.codec_graph.specs.declared.pin_kind.PinKind.{PinKind}
+use Rattle.codec_graph.specs.declared.pin_kind.PinKind.TheVariants.{Digital}
 use Rattle.route_planner.specs.Plans.{IsDigitalPlan, IsPlanAs}
 use Rattle.setup_verbs.specs.VerbList.{setup_verbs_as}
 use Rattle.setup_verbs.specs.SetUp.{IsDigitallySetUp, IsSetUpFor}

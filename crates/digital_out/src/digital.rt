@@ -1,5 +1,5 @@
 //! The set-up of digital outputs.
-ghost use Rattle.route_planner.specs.declared.pin_kind.PinKind.TheVariants as kind;
+ghost use Rattle.codec_graph.specs.declared.pin_kind.PinKind.TheVariants as kind;
 ghost use Rattle.setup_verbs.proofs.Callers.{lead_to_digital_set_up, all_commands_of, one_plan_as};
 ghost use Rattle.digital_out.specs.Means.{digital};
 

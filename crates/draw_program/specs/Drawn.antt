@@ -2,7 +2,7 @@
 -- the text is the picture of the codecs or of the run. This project's own.
 use Rattle.std.specs.Prelude.{◌≡◌, ◌⊎◌, ℕ, List, Option, Some, None, if◌then◌else◌}
 use Rattle.stream_format.specs.declared.format.Format.{Format}
-use Rattle.route_planner.specs.declared.pin_kind.PinKind.TheVariants.{Analog}
+use Rattle.codec_graph.specs.declared.pin_kind.PinKind.TheVariants.{Analog}
 use Rattle.route_planner.specs.declared.routes.Plan.{Plan}
 use Rattle.hda_files.specs.declared.machine.CodecFile.{CodecFile}
 use Rattle.hda_files.specs.declared.machine.Machine.{Machine}

@@ -1,5 +1,5 @@
 -- The signals of a codec that were never renewed.
-use Rattle.route_planner.specs.declared.pin_kind.PinKind.{PinKind}
+use Rattle.codec_graph.specs.declared.pin_kind.PinKind.{PinKind}
 use Rattle.std.proofs.Common.{◌≡◌, ◌<◌, ◌==◌, ◌||◌, ◌↔◌, ◌+◌, ℕ, zero, suc, Bool, true, false, List, [], ◌∷◌, ◌++◌, length, get_or, Option, Some, None, refl, sym, ap, subst, ◌∙◌, arith, eq-eqb, pred}
 use Rattle.std.specs.Prelude.{Contains, slice_get, MatchOption, option_map}
 use Rattle.std.specs.Option.{unwrap_or}
@@ -8,9 +8,9 @@ use Rattle.std.proofs.lemmas.Map.Views.{Contains-from_any}
 use Rattle.std.proofs.lemmas.Bool.{eqb-true, or_right}
 use Rattle.std.proofs.lemmas.List.{length-append}
 use Rattle.std.proofs.lemmas.List.Elements.{All-nil, All-push}
-use Rattle.route_planner.specs.Kinds.{is_candidate_as}
+use Rattle.codec_graph.specs.Kinds.{is_candidate_as}
 use Rattle.codec_graph.specs.CodecStates.{CodecState}
-use Rattle.route_planner.specs.Order.{IsOrderAs}
+use Rattle.codec_graph.specs.Order.{IsOrderAs}
 use Rattle.stream_format.specs.declared.format.Format.{Format}
 use Rattle.stream_format.specs.Layouts.{layout, layout_of}
 use Rattle.stream_format.specs.Words.{format_word, HasNoFormat}

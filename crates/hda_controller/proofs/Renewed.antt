@@ -1,10 +1,10 @@
 -- Kept signals that are worked out anew are those of the moment.
-use Rattle.route_planner.specs.declared.pin_kind.PinKind.{PinKind}
+use Rattle.codec_graph.specs.declared.pin_kind.PinKind.{PinKind}
 use Rattle.std.proofs.Common.{◌≡◌, ◌≢◌, ◌<◌, ◌==◌, ◌⊎◌, inl, inr, ℕ, zero, suc, pred, List, [], ◌∷◌, length, map, take, set, get_or, Option, Some, None, refl, sym, ap, ◌∙◌, arith}
 use Rattle.std.specs.Prelude.{slice_get, slice_index, MatchOption, option_map}
 use Rattle.std.specs.Option.{unwrap_or}
 use Rattle.std.specs.List.{list_any}
-use Rattle.route_planner.specs.Kinds.{is_candidate_as}
+use Rattle.codec_graph.specs.Kinds.{is_candidate_as}
 use Rattle.codec_graph.specs.CodecStates.{CodecState}
 use Rattle.stream_format.specs.declared.format.Format.{Format}
 use Rattle.stream_format.specs.Layouts.{Layout, layout, layout_of}

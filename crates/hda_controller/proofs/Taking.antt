@@ -1,5 +1,5 @@
 -- Kept signals after a step of CORB's engine.
-use Rattle.route_planner.specs.declared.pin_kind.PinKind.{PinKind}
+use Rattle.codec_graph.specs.declared.pin_kind.PinKind.{PinKind}
 use Rattle.std.proofs.Common.{◌≡◌, ◌≢◌, inl, inr, ℕ, zero, suc, Bool, true, false, List, [], ◌∷◌, length, map, set, get_or, Option, Some, None, if◌then◌else◌, refl, sym, ap, subst, ◌∙◌}
 use Rattle.std.specs.Prelude.{Vec, IfSome, slice_get, slice_index, slice_set}
 use Rattle.std.specs.Vec.{with_items}

@@ -1,5 +1,5 @@
 -- Blocks that wait until they are heard.
-use Rattle.route_planner.specs.declared.pin_kind.PinKind.{PinKind}
+use Rattle.codec_graph.specs.declared.pin_kind.PinKind.{PinKind}
 use Rattle.std.proofs.Common.{◌≡◌, ◌≤◌, ◌+◌, ◌*◌, true, ℕ, List, [], ◌++◌, length, map, ◌∷◌, Option, Some, None, refl, sym, ap, subst, ◌∙◌, arith, length-append}
 use Rattle.std.proofs.Math.Nat.{zero-div, add-mul}
 use Rattle.std.proofs.lemmas.List.Elements.{All-map}

@@ -1,5 +1,5 @@
 -- Kept signals after a write of a register, and how often they were renewed.
-use Rattle.route_planner.specs.declared.pin_kind.PinKind.{PinKind}
+use Rattle.codec_graph.specs.declared.pin_kind.PinKind.{PinKind}
 use Rattle.std.proofs.Common.{◌≡◌, ℕ, Bool, true, false, List, length, map, if◌then◌else◌, ap, sym, subst, refl, ◌∙◌}
 use Rattle.std.specs.Prelude.{Vec}
 use Rattle.std.specs.Vec.{with_items}

@@ -4,8 +4,8 @@ use Rattle.std.specs.Prelude.{◌≡◌, ◌==◌, ℕ, List, length, Option, So
 use Rattle.std.specs.List.{list_any}
 use Rattle.codec_graph.specs.declared.raw.RawCodec.{RawCodec}
 use Rattle.codec_graph.specs.Settings.{Entries}
-use Rattle.route_planner.specs.declared.pin_kind.PinKind.{PinKind}
-use Rattle.route_planner.specs.Kinds.{is_candidate_as}
+use Rattle.codec_graph.specs.declared.pin_kind.PinKind.{PinKind}
+use Rattle.codec_graph.specs.Kinds.{is_candidate_as}
 use Rattle.codec_graph.specs.CodecStates.{CodecState}
 use Rattle.stream_format.specs.Layouts.{Layout, layout_of}
 use Rattle.codec_sound.specs.declared.signals.Signal.{Signal}

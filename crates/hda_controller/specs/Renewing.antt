@@ -2,7 +2,7 @@
 use Rattle.std.specs.Prelude.{ℕ, zero, suc, Bool, List, [], ◌∷◌, Option, Some, None, if◌then◌else◌}
 use Rattle.codec_graph.specs.CodecStates.{CodecState}
 use Rattle.codec_sound.specs.Keeping.{KeptSignals, renewed, counted_on}
-use Rattle.route_planner.specs.declared.pin_kind.PinKind.{PinKind}
+use Rattle.codec_graph.specs.declared.pin_kind.PinKind.{PinKind}
 use Rattle.device_core.specs.declared.codecs.Handed.{Handed}
 use Rattle.device_core.specs.Devices.{DeviceState}
 use Rattle.hda_controller.specs.Commands.{is_set_command}

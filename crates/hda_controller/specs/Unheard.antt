@@ -2,7 +2,7 @@
 -- own.
 use Rattle.std.specs.Prelude.{◌≡◌, ◌*◌, ◌/◌, ℕ, List, [], length, map, Option, Some, None}
 use Rattle.stream_format.specs.Layouts.{Layout, layout_of}
-use Rattle.route_planner.specs.declared.pin_kind.PinKind.{PinKind}
+use Rattle.codec_graph.specs.declared.pin_kind.PinKind.{PinKind}
 use Rattle.codec_sound.specs.declared.signals.Signal.{Signal}
 use Rattle.heard_frames.specs.HeardLists.{block_size}
 use Rattle.device_core.specs.Devices.{DeviceState}

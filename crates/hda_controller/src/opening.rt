@@ -6,11 +6,11 @@ ghost use Rattle.hda_files.specs.Machines.{IsSoundCodec};
 ghost use Rattle.hda_controller.specs.Openings as spec;
 
 use crate::places::address;
+use codec_graph::{PinKind, order_as};
 use codec_nodes::Codec;
 use codec_sound::Kept;
 use hda_files::{self, CodecFile, Machine};
 use hda_registers::{RingSize, Shape};
-use route_planner::{PinKind, order_as};
 use std::alloc::{AllocError, Global};
 use stream_format::Format;
 

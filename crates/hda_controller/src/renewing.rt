@@ -3,10 +3,10 @@ ghost use Rattle.std.specs.Prelude.{◌≡◌, ◌<◌, IfSome, length};
 ghost use Rattle.hda_controller.specs.Renewing as spec;
 
 use crate::commands::is_set_command;
+use codec_graph::PinKind;
 use codec_nodes::Codec;
 use codec_sound::Kept;
 use device_core::{Device, Handed};
-use route_planner::PinKind;
 use stream_format::Format;
 
 /// Works the signals of a codec's pins out, while the stream with this tag and format word plays.

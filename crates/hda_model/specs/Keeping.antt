@@ -1,7 +1,7 @@
 -- What holds of a device model at all times: its lists are those of analog candidate pins, and with any memory it is
 -- some world. This project's own.
 use Rattle.std.specs.Prelude.{◌≡◌, ℕ, List, map}
-use Rattle.route_planner.specs.declared.pin_kind.PinKind.TheVariants.{Analog}
+use Rattle.codec_graph.specs.declared.pin_kind.PinKind.TheVariants.{Analog}
 use Rattle.heard_lists.specs.Listings.{Listing, handed_out}
 use Rattle.hda_controller.specs.Controllers.{ControllerState}
 use Rattle.hda_controller.specs.Hearing.{AreHeardAs}

@@ -2,7 +2,7 @@
 use Rattle.std.specs.Prelude.{◌≡◌, ◌≤◌, ℕ, List, [], All, Ok, length, map, drop}
 use Rattle.std.specs.List.{AllZip}
 use Rattle.codec_graph.specs.declared.raw.RawCodec.{RawCodec}
-use Rattle.route_planner.specs.Order.{IsOrder}
+use Rattle.codec_graph.specs.Order.{IsOrder}
 use Rattle.world_steps.specs.declared.Step.{Step}
 use Rattle.hda_registers.specs.declared.shapes.Width.{Width}
 use Rattle.hda_files.specs.declared.machine.Machine.{Machine}

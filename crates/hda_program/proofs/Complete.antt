@@ -6,8 +6,8 @@ use Rattle.stream_format.specs.declared.format.Bits.{Bits}
 use Rattle.stream_format.specs.Layouts.{layout}
 use Rattle.sound_report.specs.PlanLines.{plans_lines}
 use Rattle.stream_format.specs.declared.format.Format.{Format}
-use Rattle.route_planner.specs.declared.pin_kind.PinKind.{PinKind}
-use Rattle.route_planner.specs.declared.pin_kind.PinKind.TheVariants.{Analog}
+use Rattle.codec_graph.specs.declared.pin_kind.PinKind.{PinKind}
+use Rattle.codec_graph.specs.declared.pin_kind.PinKind.TheVariants.{Analog}
 use Rattle.route_planner.specs.declared.routes.Plan.{Plan}
 use Rattle.hda_outside.specs.Shelf.{Files}
 use Rattle.stream_format.proofs.Callers.{one_format}

@@ -10,14 +10,14 @@ use Rattle.route_planner.specs.declared.routes.Outcome.{Outcome}
 use Rattle.route_planner.specs.declared.routes.Outcome.TheVariants as outcome
 use Rattle.route_planner.specs.declared.routes.PinPlan.{PinPlan}
 use Rattle.route_planner.specs.declared.routes.Plan.{Plan}
-use Rattle.route_planner.specs.Order.{comes_before}
+use Rattle.codec_graph.specs.Order.{comes_before}
 use Rattle.route_planner.specs.Paths.{IsAdmissible, LeadsTo, passes}
 use Rattle.route_planner.specs.Plans.{IsOutcome, IsPlan}
 use Rattle.driver_agenda.specs.Planned.{is_route}
 use Rattle.codec_walk.specs.Commands.{walk_commands}
 use Rattle.setup_verbs.specs.Roles.{role_of}
 use Rattle.setup_verbs.specs.VerbList.{setup_verbs_as, to_all}
-use Rattle.route_planner.specs.declared.pin_kind.PinKind.TheVariants.{Analog}
+use Rattle.codec_graph.specs.declared.pin_kind.PinKind.TheVariants.{Analog}
 use Rattle.laws_start.specs.Tasks.{HavePlans}
 use Rattle.program_runs.specs.Histories.{command_total}
 use Rattle.made_inputs.specs.MadeMachine.{made_codec, made_machine}

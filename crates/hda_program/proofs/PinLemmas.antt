@@ -14,10 +14,10 @@ use Rattle.codec_graph.specs.declared.raw.RawNode.{RawNode}
 use Rattle.codec_graph.specs.declared.raw.RawCodec.{RawCodec}
 use Rattle.codec_graph.specs.Cycles.{IsWellFormed}
 use Rattle.codec_graph.specs.Widget.{node_at, node_identifiers}
-use Rattle.route_planner.specs.declared.pin_kind.PinKind.{PinKind}
-use Rattle.route_planner.specs.declared.pin_kind.PinKind.TheVariants.{Analog, Digital}
-use Rattle.route_planner.specs.Kinds.{is_candidate_as, is_candidate_at_as}
-use Rattle.route_planner.specs.Order.{IsOrderAs, comes_before}
+use Rattle.codec_graph.specs.declared.pin_kind.PinKind.{PinKind}
+use Rattle.codec_graph.specs.declared.pin_kind.PinKind.TheVariants.{Analog, Digital}
+use Rattle.codec_graph.specs.Kinds.{is_candidate_as, is_candidate_at_as}
+use Rattle.codec_graph.specs.Order.{IsOrderAs, comes_before}
 use Rattle.route_planner.proofs.Callers.{IsBounded-from_sound, not_before}
 use Rattle.hda_files.specs.declared.machine.CodecFile.{CodecFile}
 use Rattle.hda_program.specs.Pins.{AreFewPins, AreTooManyPins, pins_in}

@@ -1,6 +1,6 @@
 -- The ways in which something is meant by a sound of three files.
 use Rattle.std.proofs.Common.{ℕ, List, [], ◌∷◌, inl, inr, Option, refl, arith}
-use Rattle.route_planner.specs.declared.pin_kind.PinKind.{PinKind}
+use Rattle.codec_graph.specs.declared.pin_kind.PinKind.{PinKind}
 use Rattle.hda_outside.specs.Shelf.{Files}
 use Rattle.sound_report.specs.declared.status.Status.{Status}
 use Rattle.sound_report.specs.declared.status.Status.TheVariants.{Done, WordsRefused, ShelfFailed, SinkFailed, CodecRefused, WavRefused, ScheduleRefused, NothingRouted, Unanswered, Late, ScheduleEnded, OutOfMemory, GeometryRefused, WavShrank}

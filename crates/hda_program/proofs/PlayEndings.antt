@@ -1,7 +1,7 @@
 -- When a sound of three files gives a run, and which.
 use Rattle.std.proofs.Common.{◌≡◌, ◌≢◌, ℕ, List, Option, Some, None, arith}
 use Rattle.std.specs.Prelude.{IfSome, IsNone, IsSome, IsSomeAnd}
-use Rattle.route_planner.specs.declared.pin_kind.PinKind.{PinKind}
+use Rattle.codec_graph.specs.declared.pin_kind.PinKind.{PinKind}
 use Rattle.hda_outside.specs.Shelf.{Files}
 use Rattle.sound_report.specs.declared.played.Played.{Played}
 use Rattle.sound_report.specs.declared.status.Status.{Status}

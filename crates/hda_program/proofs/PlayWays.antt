@@ -1,6 +1,6 @@
 -- What the private functions of `play` and `spdif` promise is one of the ways in which these end.
 use Rattle.std.proofs.Common.{◌≢◌, ℕ, ◌+◌, List, length, inl, inr, Option}
-use Rattle.route_planner.specs.declared.pin_kind.PinKind.{PinKind}
+use Rattle.codec_graph.specs.declared.pin_kind.PinKind.{PinKind}
 use Rattle.route_planner.specs.declared.routes.Plan.{Plan}
 use Rattle.hda_outside.specs.Shelf.{Files}
 use Rattle.hda_files.specs.declared.machine.Machine.{Machine}

@@ -1,6 +1,6 @@
 -- A shelf that is asked twice, and requests as what the words mean.
 use Rattle.std.proofs.Common.{◌≡◌, ◌≢◌, ℕ, ◌+◌, ◌≤◌, List, [], ◌∷◌, inl, inr, Option, Some, subst, sym, arith}
-use Rattle.route_planner.specs.declared.pin_kind.PinKind.TheVariants.{Analog, Digital}
+use Rattle.codec_graph.specs.declared.pin_kind.PinKind.TheVariants.{Analog, Digital}
 use Rattle.hda_outside.specs.Shelf.{Files}
 use Rattle.hda_files.specs.declared.machine.Machine.{Machine}
 use Rattle.program_words.specs.declared.request.Request.{Request}

@@ -1,7 +1,7 @@
 -- What the private functions of `play` and `spdif` promise one another: each ends at its check, or goes on. This
 -- project's own.
 use Rattle.std.specs.Prelude.{◌≡◌, ◌⊎◌, ◌+◌, ℕ, true, false, List, length, Option}
-use Rattle.route_planner.specs.declared.pin_kind.PinKind.{PinKind}
+use Rattle.codec_graph.specs.declared.pin_kind.PinKind.{PinKind}
 use Rattle.route_planner.specs.declared.routes.Plan.{Plan}
 use Rattle.hda_files.specs.declared.machine.Machine.{Machine}
 use Rattle.hda_outside.specs.Shelf.{Files}

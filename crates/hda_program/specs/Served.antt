@@ -1,8 +1,8 @@
 -- How a walk and a sound end by schedules that serve them. This project's own.
 use Rattle.std.specs.Prelude.{◌≡◌, ◌⊎◌, ◌*◌, ℕ, List, Option, IfSome, IsSomeAnd}
 use Rattle.stream_format.specs.Cadence.{block_bytes}
-use Rattle.route_planner.specs.declared.pin_kind.PinKind.{PinKind}
-use Rattle.route_planner.specs.declared.pin_kind.PinKind.TheVariants.{Analog}
+use Rattle.codec_graph.specs.declared.pin_kind.PinKind.{PinKind}
+use Rattle.codec_graph.specs.declared.pin_kind.PinKind.TheVariants.{Analog}
 use Rattle.route_planner.specs.declared.routes.Plan.{Plan}
 use Rattle.hda_files.specs.declared.machine.Machine.{Machine}
 use Rattle.schedule_reader.specs.declared.schedule.Schedule.{Schedule}

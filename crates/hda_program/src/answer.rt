@@ -11,9 +11,9 @@ use crate::message::{Message, words_refused};
 use crate::play::answer_play;
 use crate::route::answer_route;
 use crate::walk::answer_walk;
+use codec_graph::PinKind;
 use hda_outside::Shelf;
 use program_words::{Request, WordsFault, read_words};
-use route_planner::PinKind;
 use sound_report::Played;
 use std::alloc::{AllocError, Global};
 

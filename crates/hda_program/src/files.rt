@@ -1,7 +1,7 @@
 //! What `play` does with three files, for callers that have no words.
 ghost use Rattle.std.specs.Prelude.{◌≡◌, ◌≢◌, ◌≤◌, ◌∷◌, [], ℕ, List, IfSome, IsNone, IsSome, IsSomeAnd};
 ghost use Rattle.hda_outside.specs.Counts.{Rose};
-ghost use Rattle.route_planner.specs.declared.pin_kind.PinKind.TheVariants as kind;
+ghost use Rattle.codec_graph.specs.declared.pin_kind.PinKind.TheVariants as kind;
 ghost use Rattle.program_words.specs.Asked.{IsRingInRange};
 ghost use Rattle.sound_report.specs.Statuses.{number_of};
 ghost use Rattle.hda_program.specs.Answers.{HasEndedPlay};
@@ -17,10 +17,10 @@ ghost use Rattle.hda_program.specs.Served.{EndsSo, PlaysSo, PlaysWhole};
 
 use crate::play::answer_play;
 use crate::run::{Ended, write_answer};
+use codec_graph::PinKind;
 use hda_outside::{Shelf, Sink};
 use laws_start::read_machines_are_whole;
 use program_runs::{plays_all_so, plays_end_so};
-use route_planner::PinKind;
 use sound_report::Status;
 use std::alloc::Global;
 

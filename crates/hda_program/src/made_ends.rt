@@ -4,10 +4,10 @@ ghost use Rattle.sound_report.specs.declared.played.Played.{Played};
 ghost use Rattle.program_runs.specs.MadeRuns.{IsMadeRun};
 ghost use Rattle.hda_program.specs.MadeEnds.{MadeRunEnds};
 
+use codec_graph::one_order;
 use laws_serving::turns_serve;
 use made_inputs::made_codec_is_well_formed;
 use program_runs::plays_by_turns_so;
-use route_planner::one_order;
 
 /// A made run plays all of its sound: by one run for each turn of its schedule and one more, without a hole, and behind
 /// the sound the line is silent for the link frames of the turns that it does not reach, and for a ring.

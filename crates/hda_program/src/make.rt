@@ -6,9 +6,9 @@ ghost use Rattle.hda_program.specs.Meanings.{answer_meant};
 use crate::answer::Answer;
 use crate::made_ends::made_runs_end_so;
 use crate::plans::plans_of;
+use codec_graph::PinKind;
 use made_inputs::{made_format, made_machine};
 use program_runs::play_made;
-use route_planner::PinKind;
 use std::alloc::{AllocError, Global};
 
 /// What `make` answers for a number.

@@ -2,9 +2,8 @@
 ghost use Rattle.std.specs.Prelude.{◌≡◌, IfOk, Ok, nat_le, true, false};
 ghost use Rattle.hda_program.specs.Pins.{AreFewPins, AreTooManyPins, most_pins, pins_among, pins_in};
 
-use codec_graph::Graph;
+use codec_graph::{Graph, PinKind, order_as};
 use hda_files::CodecFile;
-use route_planner::{PinKind, order_as};
 use std::alloc::{AllocError, Global};
 
 /// How many digital pins a sound can be played through.

@@ -1,7 +1,7 @@
 //! The program over any shelf and sink.
 ghost use Rattle.std.specs.Prelude.{◌≡◌, ◌≢◌, ◌≤◌, ◌⊎◌, ℕ, List, map, string_bytes, IfSome, IsNone, IsSome, IsSomeAnd};
 ghost use Rattle.stream_format.specs.declared.format.Format.{Format};
-ghost use Rattle.route_planner.specs.declared.pin_kind.PinKind.TheVariants as kind;
+ghost use Rattle.codec_graph.specs.declared.pin_kind.PinKind.TheVariants as kind;
 ghost use Rattle.hda_outside.specs.Counts.{Rose};
 ghost use Rattle.sound_report.specs.Statuses.{number_of};
 ghost use Rattle.hda_program.specs.Answers.{HasEnded, HasWritten};

@@ -10,12 +10,12 @@ use crate::answer::Answer;
 use crate::codec::read_codec_file;
 use crate::plans::{nothing_routed, plans_of};
 use crate::schedule::read_schedule_file;
+use codec_graph::PinKind;
 use driver_agenda::have_route;
 use hda_files::Machine;
 use hda_outside::Shelf;
 use laws_start::read_machines_are_whole;
 use program_runs::{walk, walk_format};
-use route_planner::PinKind;
 use schedule_reader::Schedule;
 use std::alloc::{AllocError, Global};
 

@@ -3,7 +3,7 @@
 ghost use Rattle.std.specs.Prelude.{◌≡◌, ◌≤◌, false};
 ghost use Rattle.hda_files.specs.Machines.{IsSound};
 ghost use Rattle.rig.specs.Rigs.{setting_of};
-ghost use Rattle.route_planner.specs.declared.pin_kind.PinKind.TheVariants.{Analog};
+ghost use Rattle.codec_graph.specs.declared.pin_kind.PinKind.TheVariants.{Analog};
 
 use dma_pool::{Lent, Pool, REGION_BYTES};
 use hda_files::read_machine;

@@ -8,8 +8,8 @@ use Rattle.stream_format.specs.Layouts.{Layout, layout_of}
 use Rattle.stream_format.specs.Samples.{container_number}
 use Rattle.world_streams.specs.Output.{Carriage, Sent, Missed}
 use Rattle.hda_world.specs.Worlds.{CarriedFrame, codec_at}
-use Rattle.route_planner.specs.declared.pin_kind.PinKind.{PinKind}
-use Rattle.route_planner.specs.declared.pin_kind.PinKind.TheVariants.{Analog}
+use Rattle.codec_graph.specs.declared.pin_kind.PinKind.{PinKind}
+use Rattle.codec_graph.specs.declared.pin_kind.PinKind.TheVariants.{Analog}
 use Rattle.codec_sound.specs.declared.signals.Signal.{Signal}
 use Rattle.codec_sound.specs.declared.signals.Signal.TheVariants as variant
 use Rattle.heard_frames.specs.declared.heard.Heard.{Heard}

@@ -9,7 +9,7 @@ ghost use Rattle.stream_format.specs.Samples.{sample_of};
 ghost use Rattle.stream_format.specs.Words.{format_word, HasNoFormat};
 ghost use Rattle.world_streams.specs.Output.{Sent, Missed};
 ghost use Rattle.hda_world.specs.Worlds.{CarriedFrame};
-ghost use Rattle.route_planner.specs.declared.pin_kind.PinKind.{PinKind};
+ghost use Rattle.codec_graph.specs.declared.pin_kind.PinKind.{PinKind};
 ghost use Rattle.codec_sound.specs.declared.signals.Signal.{Signal};
 ghost use Rattle.codec_sound.specs.declared.signals.Signal.TheVariants.{Silence, Pair};
 ghost use Rattle.heard_frames.specs.declared.heard.Heard.TheVariants.{Sound, Quiet, Hole};

@@ -17,8 +17,8 @@ use Rattle.heard_frames.specs.declared.heard.Heard.{Heard}
 use Rattle.heard_frames.specs.declared.heard.Heard.TheVariants.{Hole}
 use Rattle.heard_frames.specs.HeardLists.{signal_in_as, heard_in, frame_items_as, block_at, block_size, item_of, heard_as}
 use Rattle.heard_frames.proofs.Callers.{heard-append, items-missed, items-empty}
-use Rattle.route_planner.specs.declared.pin_kind.PinKind.{PinKind}
-use Rattle.route_planner.specs.Order.{IsOrderAs}
+use Rattle.codec_graph.specs.declared.pin_kind.PinKind.{PinKind}
+use Rattle.codec_graph.specs.Order.{IsOrderAs}
 use Rattle.heard_lists.specs.Listings.{HasRoom, with_blocks, Listing, AreListsAs, AreEmpty, places_of, places_in, is_of}
 use Rattle.heard_lists.specs.Listings.{pins_of, empty_lists, with_items, items_before, grown_as}
 

@@ -1,7 +1,7 @@
 //! Laws of what is heard, each the contract of a function that does nothing.
 ghost use Rattle.std.specs.Prelude.{◌≡◌, ◌≤◌, ◌+◌, ◌*◌, ◌/◌, ◌++◌, ℕ, List, Some, All, length, drop};
 ghost use Rattle.codec_graph.specs.CodecStates.{CodecState};
-ghost use Rattle.route_planner.specs.declared.pin_kind.PinKind.{PinKind};
+ghost use Rattle.codec_graph.specs.declared.pin_kind.PinKind.{PinKind};
 ghost use Rattle.world_steps.specs.declared.Step.{Step};
 ghost use Rattle.hda_world.specs.Worlds.{World, codec_at};
 ghost use Rattle.hda_world.specs.Steps.{after_steps};

@@ -1,5 +1,5 @@
 -- The words of commands do what the commands do, and those of the set-up verbs set a codec up.
-use Rattle.route_planner.specs.declared.pin_kind.PinKind.TheVariants.{Analog}
+use Rattle.codec_graph.specs.declared.pin_kind.PinKind.TheVariants.{Analog}
 use Rattle.std.proofs.Common.{◌≡◌, ◌≤◌, ℕ, List, [], ◌∷◌, ◌++◌, map, drop, Option, Some, refl, sym, ap, subst, ◌∙◌}
 use Rattle.std.specs.Prelude.{All}
 use Rattle.std.proofs.lemmas.List.Elements.{All-head, All-tail, All-weaker}

@@ -4,7 +4,7 @@ use Rattle.codec_graph.specs.CodecStates.{CodecState}
 use Rattle.stream_format.specs.declared.format.Format.{Format}
 use Rattle.stream_format.specs.Words.{format_word}
 use Rattle.stream_format.specs.Layouts.{layout}
-use Rattle.route_planner.specs.declared.pin_kind.PinKind.{PinKind}
+use Rattle.codec_graph.specs.declared.pin_kind.PinKind.{PinKind}
 use Rattle.codec_sound.specs.declared.signals.Signal.TheVariants.{Pair, Silence}
 use Rattle.heard_frames.specs.HeardLists.{block_size, heard_as, signal_with_as}
 use Rattle.hda_world.specs.Worlds.{CarriedFrame, codec_at}

@@ -14,8 +14,8 @@ use Rattle.codec_graph.specs.Settings.{Entries}
 use Rattle.codec_graph.specs.Widget.{node_at, is_pin}
 use Rattle.codec_sound.specs.declared.signals.Signal.{Signal}
 use Rattle.codec_sound.specs.declared.signals.Signal.TheVariants.{Pair, Silence}
-use Rattle.route_planner.specs.declared.pin_kind.PinKind.{PinKind}
-use Rattle.route_planner.specs.declared.pin_kind.PinKind.TheVariants.{Analog, Digital}
+use Rattle.codec_graph.specs.declared.pin_kind.PinKind.{PinKind}
+use Rattle.codec_graph.specs.declared.pin_kind.PinKind.TheVariants.{Analog, Digital}
 use Rattle.heard_frames.specs.HeardLists.{heard_as, signal_with_as}
 use Rattle.codec_sound.specs.Signals.{signal_as, stream_of}
 use Rattle.route_planner.specs.declared.routes.Route.{Route}
@@ -23,7 +23,7 @@ use Rattle.route_planner.specs.declared.routes.Outcome.{Outcome}
 use Rattle.route_planner.specs.declared.routes.Outcome.TheVariants as outcome
 use Rattle.route_planner.specs.declared.routes.PinPlan.{PinPlan}
 use Rattle.route_planner.specs.declared.routes.Plan.{Plan}
-use Rattle.route_planner.specs.Order.{comes_before}
+use Rattle.codec_graph.specs.Order.{comes_before}
 use Rattle.route_planner.specs.Paths.{passes}
 use Rattle.route_planner.specs.Plans.{IsPlanAs}
 use Rattle.route_planner.proofs.Callers.{not_before}

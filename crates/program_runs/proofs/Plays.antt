@@ -4,7 +4,7 @@ use Rattle.std.specs.Prelude.{All}
 use Rattle.std.proofs.lemmas.List.{length-map}
 use Rattle.codec_graph.specs.Cycles.{IsWellFormed}
 use Rattle.stream_format.specs.Cadence.{block_bytes}
-use Rattle.route_planner.specs.declared.pin_kind.PinKind.{PinKind}
+use Rattle.codec_graph.specs.declared.pin_kind.PinKind.{PinKind}
 use Rattle.route_planner.specs.declared.routes.Plan.{Plan}
 use Rattle.schedule_reader.specs.declared.schedule.Item.{Item}
 use Rattle.schedule_reader.specs.declared.schedule.Schedule.{Schedule}

@@ -1,5 +1,5 @@
 -- The made machine's pin has a route.
-use Rattle.route_planner.specs.declared.pin_kind.PinKind.TheVariants.{Analog}
+use Rattle.codec_graph.specs.declared.pin_kind.PinKind.TheVariants.{Analog}
 use Rattle.std.proofs.Common.{◌≡◌, ◌==◌, ◌+◌, ◌-◌, ℕ, zero, suc, Bool, true, false, not, cond, List, [], ◌∷◌, map, Option, Some, None, refl, sym, ap, subst, ◌∙◌, arith, eqb-true}
 use Rattle.std.specs.Prelude.{◌&&◌, ◌||◌, Contains, slice_get, nat_lt}
 use Rattle.std.proofs.lemmas.List.Elements.{All-nil, All-cons}

@@ -7,7 +7,7 @@ use Rattle.codec_graph.specs.Cycles.{IsWellFormed}
 use Rattle.heard_frames.specs.HeardLists.{heard}
 use Rattle.stream_format.specs.Cadence.{block_bytes}
 use Rattle.stream_format.specs.declared.format.Rate.TheVariants.{R48}
-use Rattle.route_planner.specs.declared.pin_kind.PinKind.TheVariants.{Analog}
+use Rattle.codec_graph.specs.declared.pin_kind.PinKind.TheVariants.{Analog}
 use Rattle.route_planner.specs.declared.routes.Plan.{Plan}
 use Rattle.route_planner.specs.declared.routes.PinPlan.{PinPlan}
 use Rattle.schedule_reader.specs.declared.schedule.Item.{Item}

@@ -14,7 +14,7 @@ use Rattle.hda_world.specs.Tellings.{Telling}
 use Rattle.driver_bring_up.specs.Standing.{answers_of}
 use Rattle.laws_bring_up.specs.Standing.{AreWalked, WalkedIn}
 use Rattle.route_setup.specs.Means.{analog}
-use Rattle.route_planner.specs.declared.pin_kind.PinKind.TheVariants.{Analog}
+use Rattle.codec_graph.specs.declared.pin_kind.PinKind.TheVariants.{Analog}
 use Rattle.laws_driver.specs.Sounding.{Parts, tally_in}
 use Rattle.audio_driver.specs.States.{phase_if, state_with}
 use Rattle.audio_driver.specs.declared.driver.closing.Closed.{Closed}

@@ -6,7 +6,7 @@ use Rattle.stream_format.specs.Layouts.{layout}
 use Rattle.heard_frames.specs.declared.heard.Heard.{Heard}
 use Rattle.heard_frames.specs.HeardLists.{block_size, heard_as}
 use Rattle.heard_lists.specs.declared.pin_list.PinHeard.{PinHeard}
-use Rattle.route_planner.specs.declared.pin_kind.PinKind.{PinKind}
+use Rattle.codec_graph.specs.declared.pin_kind.PinKind.{PinKind}
 use Rattle.route_planner.specs.declared.routes.Outcome.{Outcome}
 use Rattle.route_planner.specs.declared.routes.Outcome.TheVariants as outcome
 use Rattle.route_planner.specs.declared.routes.PinPlan.{PinPlan}

@@ -4,7 +4,7 @@ use Rattle.std.specs.Prelude.{ℕ, Bool, List}
 use Rattle.verb_codes.specs.declared.verbs.Command.{Command}
 use Rattle.codec_graph.specs.declared.raw.RawCodec.{RawCodec}
 use Rattle.stream_format.specs.declared.format.Format.{Format}
-use Rattle.route_planner.specs.declared.pin_kind.PinKind.{PinKind}
+use Rattle.codec_graph.specs.declared.pin_kind.PinKind.{PinKind}
 use Rattle.route_planner.specs.declared.routes.Plan.{Plan}
 use Rattle.digital_out.specs.Means.{outputs}
 use Rattle.hda_files.specs.declared.machine.CodecFile.{CodecFile}

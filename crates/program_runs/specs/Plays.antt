@@ -3,7 +3,7 @@ use Rattle.std.specs.List.{AllZip}
 use Rattle.std.specs.Prelude.{◌≡◌, ◌≢◌, ◌<◌, ℕ, ◌+◌, ◌-◌, ◌*◌, true, false, List, length, take, Option, Some}
 use Rattle.std.specs.Prelude.{None, string_bytes, if◌then◌else◌}
 use Rattle.stream_format.specs.Cadence.{block_bytes}
-use Rattle.route_planner.specs.declared.pin_kind.PinKind.{PinKind}
+use Rattle.codec_graph.specs.declared.pin_kind.PinKind.{PinKind}
 use Rattle.route_planner.specs.declared.routes.Plan.{Plan}
 use Rattle.hda_outside.specs.Shelf.{Files}
 use Rattle.wav_reader.specs.declared.opened.WavHead.{WavHead}

@@ -4,7 +4,7 @@ use Rattle.std.proofs.Common.{lit≤}
 use Rattle.stream_format.specs.declared.format.Format.{Format}
 use Rattle.stream_format.specs.declared.format.Bits.TheVariants.{B16}
 use Rattle.stream_format.specs.declared.format.Rate.TheVariants.{R48}
-use Rattle.route_planner.specs.declared.pin_kind.PinKind.TheVariants.{Analog}
+use Rattle.codec_graph.specs.declared.pin_kind.PinKind.TheVariants.{Analog}
 use Rattle.route_planner.specs.declared.routes.Plan.{Plan}
 use Rattle.schedule_reader.specs.declared.schedule.Schedule.{Schedule}
 use Rattle.hda_files.specs.declared.machine.Machine.{Machine}

@@ -2,8 +2,8 @@
 ghost use Rattle.std.specs.Prelude.{◌≡◌, ◌*◌, ℕ, List, length, true};
 ghost use Rattle.stream_format.specs.declared.format.Rate.TheVariants.{R48};
 ghost use Rattle.stream_format.specs.Cadence.{block_bytes};
-ghost use Rattle.route_planner.specs.declared.pin_kind.PinKind.{PinKind};
-ghost use Rattle.route_planner.specs.declared.pin_kind.PinKind.TheVariants.{Analog};
+ghost use Rattle.codec_graph.specs.declared.pin_kind.PinKind.{PinKind};
+ghost use Rattle.codec_graph.specs.declared.pin_kind.PinKind.TheVariants.{Analog};
 ghost use Rattle.route_planner.specs.declared.routes.Plan.{Plan};
 ghost use Rattle.hda_files.specs.declared.machine.Machine.{Machine};
 ghost use Rattle.hda_files.specs.Machines.{IsSound};

@@ -7,8 +7,8 @@ use Rattle.std.proofs.Math.Logic.{∥∥₁_elim}
 use Rattle.std.proofs.lemmas.List.Elements.{Contains-append_left, Contains-append_right, recursion_from_All}
 use Rattle.std.proofs.lemmas.Bool.{or_right}
 use Rattle.heard_frames.specs.HeardLists.{heard_as}
-use Rattle.route_planner.specs.Order.{IsOrderAs}
-use Rattle.route_planner.specs.declared.pin_kind.PinKind.{PinKind}
+use Rattle.codec_graph.specs.Order.{IsOrderAs}
+use Rattle.codec_graph.specs.declared.pin_kind.PinKind.{PinKind}
 use Rattle.hda_world.specs.Worlds.{CarriedFrame, codec_at}
 use Rattle.hda_files.specs.declared.machine.CodecFile.{CodecFile}
 use Rattle.heard_lists.specs.Listings.{Listing, AreListsAs, graphs_in, places_of, places_in, pins_of, is_of, items_in, list_of}

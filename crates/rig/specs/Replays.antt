@@ -1,7 +1,7 @@
 -- Replay of a journal: where its events lead from the start of a machine. This project's own.
 use Rattle.std.specs.Prelude.{◌≡◌, ℕ, List, All, replicate}
-use Rattle.route_planner.specs.declared.pin_kind.PinKind.{PinKind}
-use Rattle.route_planner.specs.declared.pin_kind.PinKind.TheVariants.{Analog}
+use Rattle.codec_graph.specs.declared.pin_kind.PinKind.{PinKind}
+use Rattle.codec_graph.specs.declared.pin_kind.PinKind.TheVariants.{Analog}
 use Rattle.heard_frames.specs.HeardLists.{heard_as}
 use Rattle.hda_files.specs.declared.machine.Machine.{Machine}
 use Rattle.hda_world.specs.Worlds.{World}

@@ -12,11 +12,11 @@ ghost use Rattle.rig.specs.Honesty.{AreHonest-prop};
 
 mod accesses;
 
+use codec_graph::PinKind;
 use hda_controller::Controller;
 use hda_files::Machine;
 use hda_world::{Journal, REGION_BYTES, Step};
 use heard_lists::HeardLists;
-use route_planner::PinKind;
 use std::alloc::{AllocError, Global};
 
 /// A machine in motion, what its pins hear, and the journal of all that happened since its start. It is where its

@@ -1,7 +1,7 @@
 //! The rig: a machine that makes the steps of a schedule and keeps its journal.
 ghost use Rattle.std.specs.Prelude.{◌≡◌, ◌≤◌, ◌<◌, ◌+◌, ◌^◌, true, false, length, drop};
 ghost use Rattle.std.proofs.Props.{props};
-ghost use Rattle.route_planner.specs.declared.pin_kind.PinKind.TheVariants as pin_kind;
+ghost use Rattle.codec_graph.specs.declared.pin_kind.PinKind.TheVariants as pin_kind;
 ghost use Rattle.hda_world.specs.JournalEvents.{events_of};
 ghost use Rattle.rig.specs.Recordings.{HasRoomFor};
 ghost use Rattle.rig.specs.Rooms.{step_count, item_count};
@@ -13,12 +13,12 @@ mod parts;
 use crate::groups::{copied, pass_all};
 use crate::recording::Recording;
 use crate::rooms::room_for;
+use codec_graph::PinKind;
 use hda_controller::most_items;
 use hda_files::Machine;
 use hda_items::Items;
 use hda_platform::Platform;
 use hda_world::Step;
-use route_planner::PinKind;
 use schedule_reader::Group;
 use std::alloc::{AllocError, Global};
 

@@ -1,8 +1,8 @@
 //! What stays of a rig over the accesses of a driver.
 
+use codec_graph::PinKind;
 use hda_files::Machine;
 use hda_items::Items;
-use route_planner::PinKind;
 use schedule_reader::Group;
 
 /// What no access changes. Contracts alone speak of it.

@@ -3,7 +3,7 @@ use Rattle.std.proofs.Common.{◌<◌, ◌≤◌, ℕ, List, [], take, drop, len
 use Rattle.codec_graph.specs.declared.raw.RawCodec.{RawCodec}
 use Rattle.codec_graph.specs.Cycles.{HasSoundTables}
 use Rattle.stream_format.specs.declared.format.Format.{Format}
-use Rattle.route_planner.specs.declared.pin_kind.PinKind.{PinKind}
+use Rattle.codec_graph.specs.declared.pin_kind.PinKind.{PinKind}
 use Rattle.route_planner.specs.declared.routes.Hop.{Hop}
 use Rattle.route_planner.specs.declared.routes.PinPlan.{PinPlan}
 use Rattle.route_planner.specs.declared.routes.Plan.{Plan}
@@ -21,7 +21,7 @@ pub use Rattle.route_planner.proofs.Bridge.{match_some}
 -- the entries of a plan are admissible
 pub use Rattle.route_planner.proofs.OnlyPlan.{admissible_entries}
 -- no pin comes before itself
-pub use Rattle.route_planner.proofs.Sorted.{not_before}
+pub use Rattle.codec_graph.proofs.Callers.{not_before}
 
 -- in a graph whose tables have no fault, widgets have node identifiers below 128 and at most 64 connections each
 pub IsBounded-from_sound : (codec : RawCodec) → HasSoundTables codec → IsBounded codec

@@ -5,9 +5,10 @@ use Rattle.std.proofs.lemmas.List.{append-nil, map-append, take_more, take_all}
 use Rattle.std.proofs.lemmas.List.Elements.{All-push, All-nil}
 use Rattle.codec_graph.specs.declared.raw.RawCodec.{RawCodec}
 use Rattle.stream_format.specs.declared.format.Format.{Format}
-use Rattle.route_planner.specs.declared.pin_kind.PinKind.{PinKind}
+use Rattle.codec_graph.specs.declared.pin_kind.PinKind.{PinKind}
 use Rattle.route_planner.specs.declared.routes.PinPlan.{PinPlan}
-use Rattle.route_planner.specs.Order.{pair_as, IsOrderAs}
+use Rattle.codec_graph.specs.Order.{IsOrderAs}
+use Rattle.route_planner.specs.Pairs.{pair_as}
 use Rattle.route_planner.specs.Plans.{IsOutcomeAs, HaveOutcomesAs, IsPlanAs}
 use Rattle.route_planner.specs.Found.{IsEntry}
 

@@ -12,7 +12,7 @@ use Rattle.route_planner.specs.declared.routes.Route.{Route}
 use Rattle.route_planner.specs.declared.routes.Outcome.TheVariants as outcome
 use Rattle.route_planner.specs.declared.routes.PinPlan.{PinPlan}
 use Rattle.route_planner.specs.declared.routes.Plan.{Plan}
-use Rattle.route_planner.specs.Order.{association_of, sequence_of, comes_before}
+use Rattle.codec_graph.specs.Order.{association_of, sequence_of, comes_before}
 use Rattle.route_planner.specs.Inputs.{is_input_candidate_node, is_input_candidate, HasInputPath, IsLeastInput, AreInputEntries, IsInputPlan}
 use Rattle.route_planner.specs.FoundInputs.{IsFoundInput, IsFirstBelow, IsEntryBelow, is_earlier}
 use Rattle.route_planner.specs.Search.{IsBounded}

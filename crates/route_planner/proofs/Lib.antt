@@ -1,13 +1,10 @@
-pub mod KindLemmas
 pub mod LeftLemmas
 pub mod Targets
 pub mod Ends
 pub mod Marks
 pub mod Nearest
 pub mod Downward
-pub mod PlaceLemmas
 pub mod Bounds
-pub mod Sorted
 pub mod Bridge
 pub mod Compatible
 pub mod Least

@@ -11,10 +11,10 @@ use Rattle.std.proofs.lemmas.List.Sums.{AllPass-from_list_all, list_all-from_All
 use Rattle.codec_graph.specs.declared.raw.RawNode.{RawNode}
 use Rattle.codec_graph.specs.declared.raw.RawCodec.{RawCodec}
 use Rattle.codec_graph.specs.Widget.{node_at, is_inner, is_pin}
-use Rattle.route_planner.specs.Kinds.{is_candidate_as, is_candidate_at_as}
+use Rattle.codec_graph.specs.Kinds.{is_candidate_as, is_candidate_at_as}
 use Rattle.route_planner.specs.declared.direction.Direction.TheVariants.{Out}
-use Rattle.route_planner.specs.declared.pin_kind.PinKind.{PinKind}
-use Rattle.route_planner.specs.declared.pin_kind.PinKind.TheVariants.{Analog, Digital}
+use Rattle.codec_graph.specs.declared.pin_kind.PinKind.{PinKind}
+use Rattle.codec_graph.specs.declared.pin_kind.PinKind.TheVariants.{Analog, Digital}
 use Rattle.route_planner.specs.declared.routes.Hop.{Hop}
 use Rattle.route_planner.specs.declared.routes.Route.{Route}
 use Rattle.route_planner.specs.declared.routes.Outcome.{Outcome}
@@ -22,13 +22,13 @@ use Rattle.route_planner.specs.declared.routes.Outcome.TheVariants as outcome
 use Rattle.route_planner.specs.declared.routes.PinPlan.{PinPlan}
 use Rattle.route_planner.specs.declared.routes.Plan.{Plan}
 use Rattle.stream_format.specs.declared.format.Format.{Format}
-use Rattle.route_planner.specs.Order.{is_headphone, rank_of}
+use Rattle.route_planner.specs.Pairs.{is_headphone, rank_of}
 use Rattle.route_planner.specs.Paths.{passes, IsAdmissibleAs}
 use Rattle.route_planner.specs.Plans.{IsOutcomeAs, HaveOutcomesAs, IsPlanAs}
 use Rattle.route_planner.specs.Laws.{IsNotBlocked, HasNoBlocked, HaveOnePair}
 use Rattle.route_planner.specs.Search.{is_alike, leaves_alike, target, is_inner_at, is_end, IsBounded}
 use Rattle.route_planner.proofs.Bridge.{inner_as}
-use Rattle.route_planner.proofs.KindLemmas.{candidate_pin}
+use Rattle.codec_graph.proofs.Callers.{candidate_pin}
 use Rattle.route_planner.proofs.Compatible.{alike_used, open_alike, open_path_from_way, way_from_open_path}
 use Rattle.route_planner.proofs.Tables.{hops_of, all_hops, all_alike, table_of, AreLefts-table}
 use Rattle.route_planner.proofs.Cuts.{cut_way_out}

@@ -9,7 +9,8 @@ use Rattle.route_planner.specs.declared.routes.PinPlan.{PinPlan}
 use Rattle.route_planner.specs.declared.routes.Plan.{Plan}
 use Rattle.route_planner.specs.Paths.{LeadsTo, IsNoLarger}
 use Rattle.route_planner.specs.Inputs.{IsNoLargerInput, IsLeastInput, IsFirstInput, IsInputEntry, AreInputEntries, IsInputPlan, IsOnlyInputPlan}
-use Rattle.route_planner.proofs.OnlyPlan.{asymmetric, same_entry}
+use Rattle.codec_graph.proofs.Callers.{asymmetric}
+use Rattle.route_planner.proofs.OnlyPlan.{same_entry}
 use Rattle.route_planner.proofs.Unique.{same_paths}
 
 -- two paths of which neither is larger begin at one converter

@@ -7,7 +7,7 @@ use Rattle.codec_graph.specs.declared.raw.RawNode.{RawNode}
 use Rattle.codec_graph.specs.declared.raw.RawCodec.{RawCodec}
 use Rattle.codec_graph.specs.Widget.{node_at, is_inner}
 use Rattle.route_planner.specs.declared.direction.Direction.{Direction}
-use Rattle.route_planner.specs.declared.pin_kind.PinKind.{PinKind}
+use Rattle.codec_graph.specs.declared.pin_kind.PinKind.{PinKind}
 use Rattle.route_planner.specs.declared.left.Left.{Left}
 use Rattle.route_planner.specs.declared.routes.PinPlan.{PinPlan}
 use Rattle.stream_format.specs.declared.format.Format.{Format}

@@ -2,12 +2,12 @@
 use Rattle.std.specs.Prelude.{◌≡◌, ℕ, List}
 use Rattle.codec_graph.specs.declared.raw.RawCodec.{RawCodec}
 use Rattle.stream_format.specs.declared.format.Format.{Format}
-use Rattle.route_planner.specs.declared.pin_kind.PinKind.{PinKind}
+use Rattle.codec_graph.specs.declared.pin_kind.PinKind.{PinKind}
 use Rattle.route_planner.specs.declared.routes.Route.{Route}
 use Rattle.route_planner.specs.declared.routes.PinPlan.{PinPlan}
 use Rattle.route_planner.specs.Paths.{IsNoLarger}
 use Rattle.route_planner.specs.Plans.{IsOpenPathAs, IsOutcomeAs}
-use Rattle.route_planner.specs.Order.{pair_as}
+use Rattle.route_planner.specs.Pairs.{pair_as}
 
 -- an admissible path that the earlier entries leave open, and no larger than any other
 pub record IsLeastOpen (kind : PinKind) (codec : RawCodec) (format : Format) (earlier : List PinPlan) (pair pin : ℕ)

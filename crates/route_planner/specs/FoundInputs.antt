@@ -6,7 +6,7 @@ use Rattle.stream_format.specs.declared.format.Format.{Format}
 use Rattle.route_planner.specs.declared.routes.Route.{Route}
 use Rattle.route_planner.specs.declared.routes.Outcome.TheVariants as outcome
 use Rattle.route_planner.specs.declared.routes.PinPlan.{PinPlan}
-use Rattle.route_planner.specs.Order.{comes_before}
+use Rattle.codec_graph.specs.Order.{comes_before}
 use Rattle.route_planner.specs.Ways.{AreNoLarger}
 use Rattle.route_planner.specs.Inputs.{is_input_candidate, IsInputAdmissible, IsNoLargerInput, IsLeastInput}
 use Rattle.route_planner.specs.Inputs.{HasInputPath}

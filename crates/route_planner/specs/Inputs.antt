@@ -17,7 +17,7 @@ use Rattle.route_planner.specs.declared.routes.Outcome.TheVariants as outcome
 use Rattle.route_planner.specs.declared.routes.PinPlan.{PinPlan}
 use Rattle.route_planner.specs.declared.routes.Plan.{Plan}
 use Rattle.route_planner.specs.Formats.{supports}
-use Rattle.route_planner.specs.Order.{comes_before}
+use Rattle.codec_graph.specs.Order.{comes_before}
 use Rattle.route_planner.specs.Paths.{passes, LeadsTo, is_analog_stereo, can_be_left, IsNoLater, indexes}
 
 -- ---- candidates

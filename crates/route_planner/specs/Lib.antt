@@ -1,7 +1,6 @@
 pub mod Formats
-pub mod Kinds
-pub mod Order
 pub mod Paths
+pub mod Pairs
 pub mod Plans
 pub mod Laws
 pub mod Inputs
@@ -9,6 +8,5 @@ pub mod Inputs
 pub mod Search
 pub mod Levels
 pub mod Ways
-pub mod Places
 pub mod Found
 pub mod FoundInputs

@@ -3,14 +3,15 @@
 use Rattle.std.specs.Prelude.{◌≡◌, ℕ, List, [], ◌∷◌, ◌++◌, map, All}
 use Rattle.codec_graph.specs.declared.raw.RawCodec.{RawCodec}
 use Rattle.stream_format.specs.declared.format.Format.{Format}
-use Rattle.route_planner.specs.declared.pin_kind.PinKind.{PinKind}
-use Rattle.route_planner.specs.declared.pin_kind.PinKind.TheVariants.{Analog, Digital}
+use Rattle.codec_graph.specs.declared.pin_kind.PinKind.{PinKind}
+use Rattle.codec_graph.specs.declared.pin_kind.PinKind.TheVariants.{Analog, Digital}
 use Rattle.route_planner.specs.declared.routes.Route as declared_route
 use Rattle.route_planner.specs.declared.routes.Outcome.{Outcome}
 use Rattle.route_planner.specs.declared.routes.Outcome.TheVariants as outcome
 use Rattle.route_planner.specs.declared.routes.PinPlan.{PinPlan}
 use Rattle.route_planner.specs.declared.routes.Plan.{Plan}
-use Rattle.route_planner.specs.Order.{IsOrderAs, pair_as}
+use Rattle.codec_graph.specs.Order.{IsOrderAs}
+use Rattle.route_planner.specs.Pairs.{pair_as}
 use Rattle.route_planner.specs.Paths.{IsAdmissibleAs, IsCompatible, IsNoLarger}
 
 -- the entry of an earlier pin leaves a route with its pair open: it has no route itself, or a compatible one

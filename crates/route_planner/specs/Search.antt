@@ -11,7 +11,7 @@ use Rattle.route_planner.specs.declared.left.Left.{Left}
 use Rattle.route_planner.specs.declared.left.Left.TheVariants.{Free, By, Never}
 use Rattle.route_planner.specs.declared.direction.Direction.{Direction}
 use Rattle.route_planner.specs.declared.direction.Direction.TheVariants.{Out, In}
-use Rattle.route_planner.specs.declared.pin_kind.PinKind.{PinKind}
+use Rattle.codec_graph.specs.declared.pin_kind.PinKind.{PinKind}
 use Rattle.route_planner.specs.declared.routes.Hop.{Hop}
 use Rattle.route_planner.specs.declared.routes.Outcome.{Outcome}
 use Rattle.route_planner.specs.declared.routes.Outcome.TheVariants as outcome

@@ -8,9 +8,8 @@ ghost use Rattle.route_planner.specs.Search as spec;
 
 use crate::direction::Direction;
 use crate::left::Left;
-use crate::pin_kind::PinKind;
 use crate::routes::{Outcome, PinPlan};
-use codec_graph::{RawCodec, RawNode, bits_of, can_mute};
+use codec_graph::{PinKind, RawCodec, RawNode, bits_of, can_mute};
 use stream_format::{Bits, Format, Rate};
 use verb_codes::has_bit;
 

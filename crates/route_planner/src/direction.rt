@@ -1,6 +1,6 @@
 //! Which paths a search looks for.
 
-use crate::pin_kind::PinKind;
+use codec_graph::PinKind;
 
 /// A direction in which sound goes. A search follows connections, and these lead from where sound is taken to where it
 /// comes from: so a search for an output begins at a pin, and one for an input at an input converter (HDA 1.0a, 7.1.3).

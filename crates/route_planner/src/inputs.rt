@@ -10,10 +10,11 @@ use crate::allowed::is_begin;
 use crate::direction::Direction;
 use crate::left::lefts_of;
 use crate::levels::{nearest_level, pin_levels};
-use crate::pin_order::{UNCONNECTED, comes_before};
 use crate::routes::{Outcome, PinPlan, Plan, Route};
 use crate::walk::{Way, walk};
-use codec_graph::{Graph, NODE_IDENTIFIERS, RawCodec, RawNode, bits_of, has_bit};
+use codec_graph::{
+    Graph, NODE_IDENTIFIERS, RawCodec, RawNode, UNCONNECTED, bits_of, comes_before, has_bit,
+};
 use hda_items::Items;
 use std::alloc::{AllocError, Global};
 use stream_format::Format;

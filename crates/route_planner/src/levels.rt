@@ -8,9 +8,8 @@ ghost use Rattle.route_planner.specs.Ways as ways;
 use crate::allowed::{can_leave, is_end, is_inner};
 use crate::direction::Direction;
 use crate::left::Left;
-use crate::pin_kind::PinKind;
 use crate::routes::PinPlan;
-use codec_graph::{NODE_IDENTIFIERS, RawCodec};
+use codec_graph::{NODE_IDENTIFIERS, PinKind, RawCodec};
 use stream_format::Format;
 
 /// The level of a node from which no way is known.

@@ -10,7 +10,7 @@ use Rattle.codec_graph.specs.declared.raw.RawCodec.{RawCodec}
 use Rattle.codec_graph.specs.declared.controls.Control.TheVariants as control
 use Rattle.codec_graph.specs.Widget.{node_at, is_output_converter, is_mixer, is_pin, is_inner, is_stereo, is_digital}
 use Rattle.codec_graph.specs.Candidates.{is_candidate_at}
-use Rattle.route_planner.specs.Kinds.{is_candidate_at_as, is_candidate_as}
+use Rattle.codec_graph.specs.Kinds.{is_candidate_at_as, is_candidate_as}
 use Rattle.codec_graph.specs.Settings.{Entries, setting_of, IsSettingsOf}
 use Rattle.codec_graph.specs.Cycles.{IsWellFormed}
 use Rattle.verb_codes.specs.Words.{has_bit}
@@ -19,8 +19,8 @@ use Rattle.codec_sound.specs.declared.signals.Signal.{Signal}
 use Rattle.codec_sound.specs.declared.signals.Signal.TheVariants.{Silence, Pair}
 use Rattle.codec_sound.specs.Signals.{stream_of, is_off, is_foreign, given_at, gives_from, out_as, pin_hears, hears, signal_as}
 use Rattle.codec_sound.proofs.Callers.{out-gives}
-use Rattle.route_planner.specs.declared.pin_kind.PinKind.{PinKind}
-use Rattle.route_planner.specs.declared.pin_kind.PinKind.TheVariants.{Analog, Digital}
+use Rattle.codec_graph.specs.declared.pin_kind.PinKind.{PinKind}
+use Rattle.codec_graph.specs.declared.pin_kind.PinKind.TheVariants.{Analog, Digital}
 use Rattle.route_planner.specs.declared.routes.Hop.{Hop}
 use Rattle.route_planner.specs.declared.routes.Route as declared_route
 use Rattle.route_planner.specs.declared.routes.Outcome.{Outcome}

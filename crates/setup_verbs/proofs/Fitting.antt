@@ -11,15 +11,15 @@ use Rattle.std.proofs.lemmas.Map.Views.{Contains-from_any}
 use Rattle.codec_graph.specs.declared.raw.RawNode.{RawNode}
 use Rattle.codec_graph.specs.declared.raw.RawCodec.{RawCodec}
 use Rattle.codec_graph.specs.Widget.{node_at, is_mixer, is_selector, has_input_amplifier}
-use Rattle.route_planner.specs.Kinds.{is_candidate_at_as}
+use Rattle.codec_graph.specs.Kinds.{is_candidate_at_as}
 use Rattle.codec_graph.specs.Cycles.{IsWellFormed}
 use Rattle.codec_graph.proofs.Callers.{node_below, counted}
 use Rattle.stream_format.specs.declared.format.Format.{Format}
-use Rattle.route_planner.specs.declared.pin_kind.PinKind.{PinKind}
-use Rattle.route_planner.specs.declared.pin_kind.PinKind.TheVariants.{Analog, Digital}
+use Rattle.codec_graph.specs.declared.pin_kind.PinKind.{PinKind}
+use Rattle.codec_graph.specs.declared.pin_kind.PinKind.TheVariants.{Analog, Digital}
 use Rattle.route_planner.specs.declared.routes.PinPlan.{PinPlan}
 use Rattle.route_planner.specs.declared.routes.Plan.{Plan}
-use Rattle.route_planner.specs.Order.{comes_before, IsOrderAs}
+use Rattle.codec_graph.specs.Order.{comes_before, IsOrderAs}
 use Rattle.route_planner.specs.Paths.{passes, can_be_left_as}
 use Rattle.route_planner.specs.Plans.{IsPlanAs}
 use Rattle.route_planner.proofs.Callers.{not_before}

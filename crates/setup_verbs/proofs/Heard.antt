@@ -25,8 +25,8 @@ use Rattle.setup_verbs.proofs.Faultless.{faultless_at, input_offset, output_offs
 use Rattle.setup_verbs.proofs.RoleFacts.{within_list}
 use Rattle.setup_verbs.proofs.Passing.{mixed_is, output_passes, input_passes, input_muted, mixed_one, made_cases, selector_case, converter_case, given_on, kept_mute, IsLeft}
 use Rattle.setup_verbs.proofs.Opened.{PassedSet, SourceSet, IsEnabledFor}
-use Rattle.route_planner.specs.declared.pin_kind.PinKind.{PinKind}
-use Rattle.route_planner.specs.declared.pin_kind.PinKind.TheVariants.{Analog, Digital}
+use Rattle.codec_graph.specs.declared.pin_kind.PinKind.{PinKind}
+use Rattle.codec_graph.specs.declared.pin_kind.PinKind.TheVariants.{Analog, Digital}
 
 module _ (kind : PinKind) (codec : RawCodec) (well : IsWellFormed codec) (s : Entries) (nid : ℕ) (node : RawNode) (there : node_at codec nid ≡ Some node) where
   -- each other input of a mixer is muted

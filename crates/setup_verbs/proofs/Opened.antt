@@ -23,8 +23,8 @@ use Rattle.verb_codes.specs.Amplifiers as amplifiers
 use Rattle.verb_codes.specs.Words.{bits_of, has_bit}
 use Rattle.stream_format.specs.declared.format.Format.{Format}
 use Rattle.stream_format.specs.Words.{format_word}
-use Rattle.route_planner.specs.declared.pin_kind.PinKind.{PinKind}
-use Rattle.route_planner.specs.declared.pin_kind.PinKind.TheVariants.{Analog, Digital}
+use Rattle.codec_graph.specs.declared.pin_kind.PinKind.{PinKind}
+use Rattle.codec_graph.specs.declared.pin_kind.PinKind.TheVariants.{Analog, Digital}
 use Rattle.route_planner.specs.declared.routes.Plan.{Plan}
 use Rattle.codec_sound.specs.Signals.{is_off, is_enabled, is_foreign}
 use Rattle.setup_verbs.specs.declared.roles.Role.{Role}

@@ -12,8 +12,8 @@ use Rattle.codec_graph.specs.Widget.{is_mixer, is_selector, is_stereo, has_input
 use Rattle.codec_graph.specs.Settings.{Entries, setting_of}
 use Rattle.codec_graph.specs.VerbMeaning.{kept_amplifier}
 use Rattle.verb_codes.specs.Words.{has_bit, bits_of}
-use Rattle.route_planner.specs.declared.pin_kind.PinKind.{PinKind}
-use Rattle.route_planner.specs.declared.pin_kind.PinKind.TheVariants.{Analog, Digital}
+use Rattle.codec_graph.specs.declared.pin_kind.PinKind.{PinKind}
+use Rattle.codec_graph.specs.declared.pin_kind.PinKind.TheVariants.{Analog, Digital}
 use Rattle.route_planner.specs.Paths.{can_be_left, can_be_left_as, passes_digital}
 use Rattle.codec_sound.specs.declared.signals.Signal.{Signal}
 use Rattle.codec_sound.specs.declared.signals.Signal.TheVariants.{Silence, Pair, Altered}

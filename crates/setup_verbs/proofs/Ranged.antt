@@ -19,8 +19,8 @@ use Rattle.verb_codes.specs.Amplifiers as amplifiers
 use Rattle.stream_format.specs.declared.format.Format.{Format}
 use Rattle.stream_format.specs.Words.{format_word}
 use Rattle.stream_format.proofs.Callers.{word_small}
-use Rattle.route_planner.specs.declared.pin_kind.PinKind.{PinKind}
-use Rattle.route_planner.specs.declared.pin_kind.PinKind.TheVariants.{Analog, Digital}
+use Rattle.codec_graph.specs.declared.pin_kind.PinKind.{PinKind}
+use Rattle.codec_graph.specs.declared.pin_kind.PinKind.TheVariants.{Analog, Digital}
 use Rattle.route_planner.specs.declared.routes.Plan.{Plan}
 use Rattle.route_planner.specs.declared.routes.PinPlan.{PinPlan}
 use Rattle.route_planner.specs.Plans.{IsPlanAs}

@@ -17,8 +17,8 @@ use Rattle.verb_codes.specs.declared.verbs.Verb.{Verb}
 use Rattle.verb_codes.specs.declared.verbs.Verb.TheVariants.{SetSelect, SetPower, SetStream, SetPin, SetUnsol, SetEapd, SetFormat, SetDigital}
 use Rattle.stream_format.specs.declared.format.Format.{Format}
 use Rattle.stream_format.specs.Words.{format_word}
-use Rattle.route_planner.specs.declared.pin_kind.PinKind.{PinKind}
-use Rattle.route_planner.specs.declared.pin_kind.PinKind.TheVariants.{Analog, Digital}
+use Rattle.codec_graph.specs.declared.pin_kind.PinKind.{PinKind}
+use Rattle.codec_graph.specs.declared.pin_kind.PinKind.TheVariants.{Analog, Digital}
 use Rattle.route_planner.specs.declared.routes.Plan.{Plan}
 use Rattle.setup_verbs.specs.declared.roles.Role.{Role}
 use Rattle.setup_verbs.specs.declared.roles.Role.TheVariants.{Unused, Passed, Source}

@@ -5,7 +5,7 @@ ghost use Rattle.codec_graph.specs.Cycles.{IsWellFormed};
 ghost use Rattle.stream_format.specs.declared.format.Format.{Format};
 ghost use Rattle.route_planner.specs.declared.routes.Plan.{Plan};
 ghost use Rattle.codec_graph.specs.Settings.{Entries, IsSettingsOf};
-ghost use Rattle.route_planner.specs.declared.pin_kind.PinKind.TheVariants.{Digital};
+ghost use Rattle.codec_graph.specs.declared.pin_kind.PinKind.TheVariants.{Digital};
 ghost use Rattle.route_planner.specs.Plans.{IsDigitalPlan, IsPlan};
 ghost use Rattle.setup_verbs.specs.VerbList.{setup_verbs, setup_verbs_as};
 ghost use Rattle.setup_verbs.specs.SetUp.{IsCommandOf, IsDigitallySetUp, LeadToSetUp, settings_after};

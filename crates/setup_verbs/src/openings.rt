@@ -3,7 +3,7 @@ ghost use Rattle.std.specs.Prelude.{◌≡◌, ◌≤◌, ◌<◌, ◌+◌, ◌*
 ghost use Rattle.std.specs.List.{range_with_len};
 ghost use Rattle.codec_graph.specs.Widget as widget;
 ghost use Rattle.setup_verbs.specs.Roles.{place_among};
-ghost use Rattle.route_planner.specs.declared.pin_kind.PinKind.TheVariants as pin_kind;
+ghost use Rattle.codec_graph.specs.declared.pin_kind.PinKind.TheVariants as pin_kind;
 ghost use Rattle.setup_verbs.specs.VerbList as spec;
 
 use crate::roles::Role;

@@ -1,6 +1,6 @@
 use Rattle.std.proofs.Common.{◌≡◌, true, false, rules, inl, inr, refl}
 use Rattle.program_runs.specs.Walks.{walk_format}
-use Rattle.route_planner.specs.declared.pin_kind.PinKind.TheVariants.{Analog}
+use Rattle.codec_graph.specs.declared.pin_kind.PinKind.TheVariants.{Analog}
 use Rattle.program_runs.specs.Outputs.{HavePlansOf}
 use Rattle.driver_agenda.specs.Planned.{have_route}
 use Rattle.hda_program.proofs.walk.walk_schedule.Goals as goal

@@ -1,7 +1,7 @@
 use Rattle.std.proofs.Common.{◌≡◌, ◌∙◌, ap, Some}
 use Rattle.hda_outside.specs.Counts.{Rose}
 use Rattle.hda_outside.specs.MemoryShelf.{SteadyShelf, fault_count}
-use Rattle.route_planner.specs.declared.pin_kind.PinKind.TheVariants.{Analog}
+use Rattle.codec_graph.specs.declared.pin_kind.PinKind.TheVariants.{Analog}
 use Rattle.sound_report.specs.declared.played.Played.{Played}
 use Rattle.program_runs.specs.Plays.{IsCutUnder, IsPlayedFrom}
 use Rattle.program_runs.specs.MadeRuns.{IsMadeRun}

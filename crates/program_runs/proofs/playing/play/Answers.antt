@@ -12,7 +12,7 @@ use Rattle.sound_report.specs.declared.played.Played.{Played}
 use Rattle.driver_bring_up.specs.Jacks.{Counts}
 use Rattle.period_writer.specs.Runs.{measures}
 use Rattle.rig.specs.Follows.{Follows}
-use Rattle.route_planner.specs.declared.pin_kind.PinKind.{PinKind}
+use Rattle.codec_graph.specs.declared.pin_kind.PinKind.{PinKind}
 use Rattle.rig.specs.Rigs.{setting_of, telling_of}
 use Rattle.rig.specs.Replays.{AreHeardInAs, start_of, telling_from}
 use Rattle.heard_lists.specs.Listings.{AreListsAs, graphs_in, handed_out}

@@ -4,7 +4,7 @@ use Rattle.schedule_reader.specs.Counts.{items_of}
 use Rattle.driver_progress.specs.Tasks.{Task, DriverLine, order_of}
 use Rattle.driver_progress.specs.Progress.{state_of}
 use Rattle.laws_start.specs.Tasks.{commands_of}
-use Rattle.route_planner.specs.declared.pin_kind.PinKind.TheVariants.{Analog}
+use Rattle.codec_graph.specs.declared.pin_kind.PinKind.TheVariants.{Analog}
 use Rattle.program_runs.specs.Histories.{command_total, journal_of, telling_of_run}
 use Rattle.program_runs.specs.Walks.{walk_format, walked_task}
 use Rattle.laws_serving.specs.ServingSchedules.{ServesCommands}

@@ -16,7 +16,7 @@ use Rattle.rig.specs.Rigs.{telling_of}
 use Rattle.rig.specs.Replays.{start_of}
 use Rattle.laws_start.specs.Tasks.{blocks_of}
 use Rattle.route_setup.specs.Means.{analog}
-use Rattle.route_planner.specs.declared.pin_kind.PinKind.TheVariants.{Analog}
+use Rattle.codec_graph.specs.declared.pin_kind.PinKind.TheVariants.{Analog}
 use Rattle.program_runs.specs.Outputs.{HavePlansOf, commands_as}
 use Rattle.program_runs.specs.Events.{told_in}
 use Rattle.program_runs.specs.Going.{parts_with}

@@ -2,7 +2,7 @@ use Rattle.std.proofs.Common.{ℕ, List, get_or, subst, sym}
 use Rattle.codec_graph.specs.declared.raw.RawCodec.{RawCodec}
 use Rattle.codec_graph.specs.Cycles.{HasSoundTables}
 use Rattle.route_planner.specs.declared.routes.PinPlan.{PinPlan}
-use Rattle.route_planner.specs.Order.{IsOrderAs}
+use Rattle.codec_graph.specs.Order.{IsOrderAs}
 use Rattle.route_planner.specs.Found.{IsEntry}
 use Rattle.route_planner.specs.Plans.{IsPlanAs}
 use Rattle.route_planner.proofs.OneWay.{no_blocked}

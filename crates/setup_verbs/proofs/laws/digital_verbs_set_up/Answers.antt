@@ -1,4 +1,4 @@
-use Rattle.route_planner.specs.declared.pin_kind.PinKind.TheVariants.{Digital}
+use Rattle.codec_graph.specs.declared.pin_kind.PinKind.TheVariants.{Digital}
 use Rattle.setup_verbs.proofs.DigitalOpened.{lead_to_digital_set_up}
 use Rattle.setup_verbs.proofs.Ranged.{all_commands_of}
 use Rattle.setup_verbs.proofs.laws.digital_verbs_set_up.Goals as goal

@@ -7,7 +7,7 @@ use Rattle.setup_verbs.specs.Roles.{role_of, role_among, uses_of}
 use Rattle.setup_verbs.specs.Steps.{FitsVerbs}
 use Rattle.setup_verbs.specs.VerbList.{setup_verbs_as}
 use Rattle.stream_format.specs.declared.format.Format.{Format}
-use Rattle.route_planner.specs.declared.pin_kind.PinKind.{PinKind}
+use Rattle.codec_graph.specs.declared.pin_kind.PinKind.{PinKind}
 use Rattle.route_planner.specs.declared.routes.Plan.{Plan}
 use Rattle.std.specs.Prelude.{All}
 use Rattle.verb_codes.specs.declared.verbs.Command.{Command}

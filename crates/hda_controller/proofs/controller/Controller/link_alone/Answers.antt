@@ -6,7 +6,7 @@ use Rattle.hda_world.specs.Worlds.{output_of}
 use Rattle.hda_world.specs.Steps.{frame_carried, frame_step}
 use Rattle.device_core.specs.Devices.{IsWorld}
 use Rattle.heard_lists.proofs.Callers.{hole-grows, gap-grows, HasRoom-fewer}
-use Rattle.route_planner.specs.declared.pin_kind.PinKind.{PinKind}
+use Rattle.codec_graph.specs.declared.pin_kind.PinKind.{PinKind}
 use Rattle.hda_controller.specs.Controllers.{ControllerState}
 use Rattle.hda_controller.specs.Hearing.{AreHeardAs, GrewAs}
 use Rattle.hda_controller.proofs.Growth.{grew_idle, grew_gap, grew_hole, blocks_heard, due_here}

@@ -8,7 +8,7 @@ use Rattle.hda_world.specs.Steps.{frame_carried, frame_step}
 use Rattle.device_core.specs.Devices.{DeviceState, IsWorld}
 use Rattle.heard_lists.specs.Listings.{Listing, with_items}
 use Rattle.heard_lists.proofs.Callers.{hole-grows, gap-grows, HasRoom-fewer}
-use Rattle.route_planner.specs.declared.pin_kind.PinKind.{PinKind}
+use Rattle.codec_graph.specs.declared.pin_kind.PinKind.{PinKind}
 use Rattle.hda_controller.specs.Controllers.{ControllerState, signal_now}
 use Rattle.hda_controller.specs.Hearing.{AreHeardAs, GrewAs}
 use Rattle.hda_controller.specs.Unheard.{AreWhole, block_count, heard_now, layout_now}

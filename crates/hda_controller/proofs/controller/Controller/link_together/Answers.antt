@@ -1,5 +1,5 @@
 use Rattle.std.proofs.Common.{◌≡◌, ◌+◌, ◌-◌, ◌*◌, ℕ, List, refl, sym, ap, subst, ◌∙◌, arith}
-use Rattle.route_planner.specs.declared.pin_kind.PinKind.{PinKind}
+use Rattle.codec_graph.specs.declared.pin_kind.PinKind.{PinKind}
 use Rattle.hda_world.specs.Worlds.{World}
 use Rattle.hda_world.specs.Steps.{times, frame_step}
 use Rattle.heard_lists.specs.Listings.{Listing, HasRoom}

@@ -1,5 +1,5 @@
 use Rattle.std.proofs.Common.{sym, ap, subst}
-use Rattle.route_planner.specs.declared.pin_kind.PinKind.{PinKind}
+use Rattle.codec_graph.specs.declared.pin_kind.PinKind.{PinKind}
 use Rattle.hda_controller.specs.Controllers.{ControllerState}
 use Rattle.hda_controller.specs.Hearing.{AreHeardAs}
 use Rattle.hda_controller.proofs.Listed.{heard_after, addresses_after}

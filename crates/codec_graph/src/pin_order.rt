@@ -1,23 +1,23 @@
-//! The order of the candidate pins of each kind, and the pair of channels of each.
-ghost use Rattle.std.specs.Prelude.{◌≡◌, ◌≤◌, ◌<◌, false, IfOk, MatchOption};
+//! The order of the candidate pins of each kind.
+ghost use Rattle.std.specs.Prelude.{◌≡◌, false, IfOk, MatchOption};
+ghost use Rattle.codec_graph.specs.Cycles.{IsWellFormed};
+ghost use Rattle.codec_graph.specs.Kinds as kinds;
+ghost use Rattle.codec_graph.specs.Order as spec;
+ghost use Rattle.codec_graph.specs.Places as place_words;
 ghost use Rattle.codec_graph.specs.Widget.{node_at};
-ghost use Rattle.route_planner.specs.Kinds as kinds;
-ghost use Rattle.route_planner.specs.Order as spec;
-ghost use Rattle.route_planner.specs.Places as place_words;
-ghost use Rattle.route_planner.specs.Search as search_words;
 
+use crate::graph::Graph;
+use crate::limits::NODE_IDENTIFIERS;
 use crate::pin_kind::PinKind;
-use codec_graph::{Graph, NODE_IDENTIFIERS, RawCodec, RawNode, bits_of, has_bit};
+use crate::raw::{RawCodec, RawNode};
 use std::alloc::{AllocError, Global};
-
-/// The default device of a headphone: HP out (HDA 1.0a, 7.3.3.31).
-const HEADPHONE_DEVICE: u32 = 2;
+use verb_codes::{bits_of, has_bit};
 
 /// The default device of an S/PDIF output: SPDIF out (HDA 1.0a, 7.3.3.31).
 const DIGITAL_DEVICE: u32 = 4;
 
 /// The port connectivity of a pin to which nothing is connected (HDA 1.0a, 7.3.3.31).
-pub(crate) const UNCONNECTED: u32 = 1;
+pub const UNCONNECTED: u32 = 1;
 
 /// The bit of the pin capabilities that says that it can drive an output (HDA 1.0a, 7.3.4.9).
 const OUTPUT_CAPABLE: u32 = 4;
@@ -71,7 +71,7 @@ fn nids_of(alloc: Global, places: &[Place]) -> Result<Vec<u8>, AllocError>
 
 /// The places of the candidate pins of a kind.
 fn places_of(alloc: Global, kind: PinKind, codec: &RawCodec) -> Result<Vec<Place>, AllocError>
-    requires { search_words.IsBounded codec.now }
+    requires { IsWellFormed codec.now }
     ensures { IfOk result (λ list. place_words.ArePlaces kind codec.now list.items) }
 {
     let mut places = Vec::new(alloc);
@@ -147,7 +147,7 @@ fn sequence_at(codec: &RawCodec, nid: u8) -> u32
 }
 
 /// Whether a pin comes before another: by association, then by sequence, then by node identifier.
-pub(crate) fn comes_before(codec: &RawCodec, pin: u8, other: u8) -> bool
+pub fn comes_before(codec: &RawCodec, pin: u8, other: u8) -> bool
     ensures { result ≡ spec.comes_before codec.now pin other }
 {
     let associations = (association_at(codec, pin), association_at(codec, other));
@@ -155,58 +155,4 @@ pub(crate) fn comes_before(codec: &RawCodec, pin: u8, other: u8) -> bool
     associations.0 < associations.1
         || associations.0 == associations.1
             && (sequences.0 < sequences.1 || sequences.0 == sequences.1 && pin < other)
-}
-
-/// Whether the pin's default device is a headphone: HP out (HDA 1.0a, 7.3.3.31).
-pub fn is_headphone(node: &RawNode) -> bool
-    ensures { result ≡ spec.is_headphone_node node.now }
-{
-    bits_of(node.default, 20, 4) == HEADPHONE_DEVICE
-}
-
-/// Whether the other node is a candidate of the pin's association that comes before the pin, and no headphone.
-fn is_earlier_companion(codec: &RawCodec, pin: u8, other: u8) -> bool
-    ensures { result ≡ spec.is_earlier_companion codec.now pin other }
-{
-    match (codec.node(pin), codec.node(other)) {
-        (Some(p), Some(q)) => {
-            q.is_candidate()
-                && !is_headphone(q)
-                && q.association() == p.association()
-                && (q.sequence() < p.sequence() || q.sequence() == p.sequence() && other < pin)
-        }
-        _ => false,
-    }
-}
-
-/// How many candidates of the pin's association come before it and are no headphones.
-fn rank_of(codec: &RawCodec, pin: u8) -> usize
-    ensures { result ≡ spec.rank_of codec.now pin }
-{
-    (0..NODE_IDENTIFIERS as u8)
-        .filter(|other| is_earlier_companion(codec, pin, *other))
-        .count()
-}
-
-/// The pair of channels of a pin of a kind: 0 for a digital one.
-pub(crate) fn pair_as(kind: PinKind, codec: &RawCodec, channels: u8, pin: u8) -> u8
-    requires { 2 ≤ channels }
-    ensures { result ≡ spec.pair_as kind codec.now channels pin }
-{
-    match kind {
-        PinKind::Analog => pair_of(codec, channels, pin),
-        PinKind::Digital => 0,
-    }
-}
-
-/// The pair of channels of an analog pin: 0 for a headphone, and else its rank, round the pairs of the stream.
-fn pair_of(codec: &RawCodec, channels: u8, pin: u8) -> u8
-    requires { 2 ≤ channels }
-    ensures { result ≡ spec.pair_of codec.now channels pin }
-{
-    let pairs = usize::from(channels / 2);
-    match codec.node(pin) {
-        Some(node) if is_headphone(node) => 0,
-        _ => (rank_of(codec, pin) % pairs) as u8,
-    }
 }

@@ -12,11 +12,11 @@ use Rattle.std.proofs.lemmas.Map.Keys.{IsDistinct-IsPermutation}
 use Rattle.std.proofs.lemmas.Map.Made.{AllPairs-from_IsDistinct, IsDistinct-from_AllPairs}
 use Rattle.codec_graph.specs.declared.raw.RawCodec.{RawCodec}
 use Rattle.codec_graph.specs.Widget.{node_at}
-use Rattle.route_planner.specs.declared.pin_kind.PinKind.{PinKind}
-use Rattle.route_planner.specs.declared.pin_order.Place.{Place}
-use Rattle.route_planner.specs.contracts.pin_order.PlaceOrd.TheImpl.Laws as laws
-use Rattle.route_planner.specs.Order.{association_of, sequence_of, comes_before, IsOrderAs}
-use Rattle.route_planner.specs.Places.{IsPlace, nids, ArePlaces}
+use Rattle.codec_graph.specs.declared.pin_kind.PinKind.{PinKind}
+use Rattle.codec_graph.specs.declared.pin_order.Place.{Place}
+use Rattle.codec_graph.specs.contracts.pin_order.PlaceOrd.TheImpl.Laws as laws
+use Rattle.codec_graph.specs.Order.{association_of, sequence_of, comes_before, IsOrderAs}
+use Rattle.codec_graph.specs.Places.{IsPlace, nids, ArePlaces}
 
 abbrev is_less : Place → Place → Bool
 is_less p q = is_lt (ordering_then (nat_cmp p.association q.association) (ordering_then (nat_cmp p.sequence q.sequence) (nat_cmp p.nid q.nid)))

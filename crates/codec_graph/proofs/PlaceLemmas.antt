@@ -1,17 +1,19 @@
 -- The places of the candidates while they are gathered.
-use Rattle.std.proofs.Common.{◌≡◌, ◌≢◌, ◌<◌, ◌≤◌, ◌+◌, ℕ, true, false, List, [], ◌∷◌, ◌++◌, get_or, refl, sym, ap, subst, ◌∙◌, inl, inr, arith}
-use Rattle.std.specs.Prelude.{All, AllPairs, Contains}
+use Rattle.std.proofs.Common.{◌≡◌, ◌≢◌, ◌<◌, ◌≤◌, ◌+◌, ℕ, true, false, List, [], ◌∷◌, ◌++◌, get_or, Option, Some, None, refl, sym, ap, subst, ◌∙◌, inl, inr, arith}
+use Rattle.std.specs.Prelude.{All, AllPairs, Contains, is_some}
 use Rattle.std.proofs.lemmas.Bool.{cases_eq, false≢true}
 use Rattle.std.proofs.lemmas.List.Elements.{All-push, All-nil, Contains-push, Contains-push_cases, Contains-append_left, Contains-get_or}
 use Rattle.std.proofs.lemmas.List.Quantifiers.{all_pairs_push}
 use Rattle.codec_graph.specs.declared.raw.RawCodec.{RawCodec}
 use Rattle.codec_graph.specs.Widget.{node_at}
-use Rattle.route_planner.specs.Kinds.{is_candidate_as}
-use Rattle.route_planner.specs.declared.pin_kind.PinKind.{PinKind}
-use Rattle.route_planner.specs.declared.pin_order.Place.{Place}
-use Rattle.route_planner.specs.Search.{IsBounded}
-use Rattle.route_planner.specs.Places.{IsPlace, IsPlaceOf, nids, ArePlaces}
-use Rattle.route_planner.proofs.KindLemmas.{candidate_there}
+use Rattle.codec_graph.specs.Kinds.{is_candidate_as}
+use Rattle.codec_graph.specs.declared.pin_kind.PinKind.{PinKind}
+use Rattle.codec_graph.specs.declared.pin_order.Place.{Place}
+use Rattle.codec_graph.specs.declared.raw.RawNode.{RawNode}
+use Rattle.codec_graph.specs.Cycles.{IsWellFormed}
+use Rattle.codec_graph.proofs.Nodes.{node_below}
+use Rattle.codec_graph.specs.Places.{IsPlace, IsPlaceOf, nids, ArePlaces}
+use Rattle.codec_graph.proofs.KindLemmas.{candidate_there}
 
 -- the places are those of the candidates below a node, each once
 pub record ArePlacesBelow (kind : PinKind) (codec : RawCodec) (places : List Place) (nid : ℕ) : Type 0 where
@@ -70,13 +72,16 @@ ArePlacesBelow-no kind codec places nid before is = record {
 }
 
 -- a candidate has a node identifier below 128
-is_candidate-below : (kind : PinKind) (codec : RawCodec) (nid : ℕ) → IsBounded codec → is_candidate_as kind codec nid ≡ true → nid < 128
-is_candidate-below kind codec nid bounded e =
-    bounded.within nid (candidate_there kind (node_at codec nid) e)
+some_below : (codec : RawCodec) (nid : ℕ) (found : Option RawNode) → IsWellFormed codec → node_at codec nid ≡ found → is_some found ≡ true → nid < 128
+some_below codec nid None well there e = absurd (false≢true e)
+some_below codec nid (Some node) well there e = node_below codec nid node well there
 
-pub ArePlaces-all : (kind : PinKind) (codec : RawCodec) (places : List Place) (nid : ℕ) → IsBounded codec → 128 ≤ nid → ArePlacesBelow kind codec places nid → ArePlaces kind codec places
-ArePlaces-all kind codec places nid bounded all before = record {
+is_candidate-below : (kind : PinKind) (codec : RawCodec) (nid : ℕ) → IsWellFormed codec → is_candidate_as kind codec nid ≡ true → nid < 128
+is_candidate-below kind codec nid well e = some_below codec nid (node_at codec nid) well refl (candidate_there kind (node_at codec nid) e)
+
+pub ArePlaces-all : (kind : PinKind) (codec : RawCodec) (places : List Place) (nid : ℕ) → IsWellFormed codec → 128 ≤ nid → ArePlacesBelow kind codec places nid → ArePlaces kind codec places
+ArePlaces-all kind codec places nid well all before = record {
   each = before.each;
   once = before.once;
-  exactly = λ other. (before.sound other, λ e. before.complete other (omega (arith, is_candidate-below kind codec other bounded e)) e);
+  exactly = λ other. (before.sound other, λ e. before.complete other (omega (arith, is_candidate-below kind codec other well e)) e);
 }

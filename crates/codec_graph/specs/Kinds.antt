@@ -6,8 +6,8 @@ use Rattle.codec_graph.specs.declared.raw.RawCodec.{RawCodec}
 use Rattle.verb_codes.specs.Words.{has_bit}
 use Rattle.codec_graph.specs.Widget.{node_at, is_pin, is_stereo, is_digital}
 use Rattle.codec_graph.specs.Candidates.{connectivity, device, association, is_candidate_node, is_candidate_at}
-use Rattle.route_planner.specs.declared.pin_kind.PinKind.{PinKind}
-use Rattle.route_planner.specs.declared.pin_kind.PinKind.TheVariants.{Analog, Digital}
+use Rattle.codec_graph.specs.declared.pin_kind.PinKind.{PinKind}
+use Rattle.codec_graph.specs.declared.pin_kind.PinKind.TheVariants.{Analog, Digital}
 
 -- the default device of an S/PDIF output: SPDIF Out
 abbrev pub digital_device : ℕ

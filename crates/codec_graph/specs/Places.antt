@@ -2,10 +2,10 @@
 use Rattle.std.specs.Prelude.{◌≡◌, ◌≢◌, ◌↔◌, ℕ, true, List, map, All, AllPairs, Contains}
 use Rattle.codec_graph.specs.declared.raw.RawCodec.{RawCodec}
 use Rattle.codec_graph.specs.Widget.{node_at}
-use Rattle.route_planner.specs.declared.pin_kind.PinKind.{PinKind}
-use Rattle.route_planner.specs.Kinds.{is_candidate_as}
-use Rattle.route_planner.specs.declared.pin_order.Place.{Place}
-use Rattle.route_planner.specs.Order.{association_of, sequence_of}
+use Rattle.codec_graph.specs.declared.pin_kind.PinKind.{PinKind}
+use Rattle.codec_graph.specs.Kinds.{is_candidate_as}
+use Rattle.codec_graph.specs.declared.pin_order.Place.{Place}
+use Rattle.codec_graph.specs.Order.{association_of, sequence_of}
 
 -- the place is that of its pin
 pub record IsPlace (codec : RawCodec) (place : Place) : Type 0 where

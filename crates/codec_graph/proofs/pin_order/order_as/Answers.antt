@@ -1,15 +1,14 @@
 use Rattle.std.proofs.Common.{◌≡◌, subst, sym}
 use Rattle.codec_graph.specs.declared.raw.RawCodec.{RawCodec}
-use Rattle.codec_graph.specs.Cycles.{HasSoundTables}
+use Rattle.codec_graph.specs.Cycles.{IsWellFormed}
 use Rattle.std.proofs.lemmas.Result.{IfOk-weaker}
-use Rattle.route_planner.specs.Order.{IsOrderAs}
-use Rattle.route_planner.specs.Places.{nids, ArePlaces}
-use Rattle.route_planner.proofs.Sorted.{IsOrder-sorted}
-use Rattle.route_planner.proofs.Bounds.{IsBounded-from_sound}
-use Rattle.route_planner.proofs.pin_order.order_as.Goals as goal
+use Rattle.codec_graph.specs.Order.{IsOrderAs}
+use Rattle.codec_graph.specs.Places.{nids, ArePlaces}
+use Rattle.codec_graph.proofs.SortedPins.{IsOrder-sorted}
+use Rattle.codec_graph.proofs.pin_order.order_as.Goals as goal
 
 pub places_of-requires : goal.places_of-requires
-places_of-requires c = IsBounded-from_sound c.raw.result.now (let P : RawCodec → Type 0 = λ codec. HasSoundTables codec in subst P (sym c.raw.ensures.value) c.raw.ensures.well_formed.tables)
+places_of-requires c = subst (λ (codec : RawCodec). IsWellFormed codec) (sym c.raw.ensures.value) c.raw.ensures.well_formed
 
 pub returns : goal.returns
 returns c =

@@ -7,9 +7,9 @@ use Rattle.codec_graph.specs.declared.raw.RawCodec.{RawCodec}
 use Rattle.codec_graph.specs.Widget.{node_at, is_pin, is_stereo, is_digital}
 use Rattle.codec_graph.specs.Candidates.{connectivity, device, association}
 use Rattle.verb_codes.specs.Words.{has_bit}
-use Rattle.route_planner.specs.declared.pin_kind.PinKind.{PinKind}
-use Rattle.route_planner.specs.declared.pin_kind.PinKind.TheVariants.{Analog, Digital}
-use Rattle.route_planner.specs.Kinds.{is_candidate_node_as, is_candidate_at_as, is_candidate_as}
+use Rattle.codec_graph.specs.declared.pin_kind.PinKind.{PinKind}
+use Rattle.codec_graph.specs.declared.pin_kind.PinKind.TheVariants.{Analog, Digital}
+use Rattle.codec_graph.specs.Kinds.{is_candidate_node_as, is_candidate_at_as, is_candidate_as}
 
 node_some : (kind : PinKind) (node : RawNode) → is_candidate_at_as kind (Some node) ≡ is_candidate_node_as kind node
 node_some Analog node = refl
