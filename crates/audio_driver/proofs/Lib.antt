@@ -7,5 +7,6 @@ mod Stretches
 mod Whole
 mod Sounded
 mod Ended
+mod Parted
 pub mod Accesses
 pub mod Callers

@@ -4,3 +4,4 @@ pub mod Sounding
 pub mod Closing
 pub mod Drivers
 pub mod Calls
+pub mod Parting

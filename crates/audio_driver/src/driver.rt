@@ -4,12 +4,14 @@ mod closing;
 mod ending;
 mod filling;
 mod opening;
+mod parting;
 mod running;
 mod sounding;
 
 pub use closing::Closed;
 use dma_pool::Pool;
 use driver_bring_up::BringUp;
+pub use parting::Parts;
 use period_writer::Writer;
 use route_setup::Setter;
 use std::marker::Model;

@@ -6,7 +6,7 @@ mod driver;
 mod laws;
 mod room;
 
-pub use driver::{Closed, Driver};
+pub use driver::{Closed, Driver, Parts};
 pub use driver_progress::{Jack, Phase};
 pub use hda_platform::OpenFault;
 pub use laws::drivers_are_answered;

@@ -1,6 +1,7 @@
 -- What the proofs of other crates cite.
 use Rattle.std.proofs.Common.{◌≡◌, ◌≤◌, ℕ, ◌*◌, length, refl, ap, sym, ◌∙◌, length-append, arith}
-use Rattle.made_inputs.specs.MadeSound.{frames_for, made_pcm, made_wav, wav_head}
+use Rattle.made_inputs.specs.MadeSound.{frames_for, made_format, made_pcm, made_wav}
+use Rattle.wav_writer.specs.Heads.{block_head}
 use Rattle.made_inputs.proofs.Frames as frames
 -- a made schedule with its repeats written out
 unfoldable pub use Rattle.made_inputs.proofs.Written.{bring_up_items}
@@ -19,7 +20,7 @@ length_pcm number = frames.length_pcm number
 -- its file has few
 pub wav_short : (number : ℕ) → length (made_wav number) ≤ 67108864
 wav_short number =
-    let long = ap length (sym (frames.file_is number (4 * frames_for number) refl)) ∙ length-append (wav_head (4 * frames_for number)) (made_pcm number) in
+    let long = ap length (sym (frames.file_is number (4 * frames_for number) refl)) ∙ length-append (block_head made_format (4 * frames_for number)) (made_pcm number) in
     let sound = frames.length_pcm number in
-    let head : length (wav_head (4 * frames_for number)) ≡ 44 = refl in
+    let head : length (block_head made_format (4 * frames_for number)) ≡ 44 = refl in
     omega (arith, long, sound, head)

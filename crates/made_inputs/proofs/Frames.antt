@@ -3,7 +3,8 @@ use Rattle.std.proofs.Common.{◌≡◌, ℕ, zero, suc, ◌+◌, ◌*◌, ◌%�
 use Rattle.std.specs.List.{flat_map, range_with_len}
 use Rattle.std.proofs.lemmas.Grind.{flat_map-append}
 use Rattle.verb_codes.proofs.Callers.{range_more}
-use Rattle.made_inputs.specs.MadeSound.{made_frame, frames_for, first_frames, made_pcm, made_wav, wav_head}
+use Rattle.made_inputs.specs.MadeSound.{made_frame, frames_for, first_frames, made_format, made_pcm, made_wav}
+use Rattle.wav_writer.specs.Heads.{block_head}
 
 pub frames_more : (number count : ℕ) → first_frames number (count + 1) ≡ first_frames number count ++ made_frame number count
 frames_more number count =
@@ -34,12 +35,12 @@ length_pcm number = length_frames number (frames_for number)
 even : (count : ℕ) → 4 * count % 2 ≡ 0
 even count = omega arith
 
-pub file_is : (number bytes : ℕ) → bytes ≡ 4 * frames_for number → wav_head bytes ++ made_pcm number ≡ made_wav number
+pub file_is : (number bytes : ℕ) → bytes ≡ 4 * frames_for number → block_head made_format bytes ++ made_pcm number ≡ made_wav number
 unfolding made_wav
 file_is number bytes is =
     let long : bytes ≡ length (made_pcm number) = is ∙ sym (length_pcm number) in
     let none : length (made_pcm number) % 2 ≡ 0 = ap (λ (n : ℕ). n % 2) (length_pcm number) ∙ even (frames_for number) in
-    ap (λ (n : ℕ). wav_head n ++ made_pcm number) long
-    ∙ ap (λ (back : List ℕ). wav_head (length (made_pcm number)) ++ back)
+    ap (λ (n : ℕ). block_head made_format n ++ made_pcm number) long
+    ∙ ap (λ (back : List ℕ). block_head made_format (length (made_pcm number)) ++ back)
     (sym (append-nil (made_pcm number)) ∙ ap (λ (pad : List ℕ). made_pcm number ++ pad) (sym (ap (λ (n : ℕ). replicate n 0) none))
     ∙ sym (append-nil (made_pcm number ++ replicate (length (made_pcm number) % 2) 0)))

@@ -1,13 +1,12 @@
 -- The sound that is made of a number. This project's own.
-use Rattle.std.specs.Prelude.{ℕ, ◌+◌, ◌*◌, ◌/◌, ◌%◌, List, [], ◌∷◌, ◌++◌, codes, false, refl}
+use Rattle.std.specs.Prelude.{ℕ, ◌+◌, ◌*◌, ◌/◌, ◌%◌, List, [], ◌∷◌, false, refl}
 use Rattle.std.specs.List.{flat_map, range_with_len}
 use Rattle.std.proofs.Common.{lit≤}
-use Rattle.byteorder.specs.Endian.{little_bytes}
 use Rattle.stream_format.specs.declared.format.Format.{Format}
 use Rattle.stream_format.specs.declared.format.Bits.TheVariants.{B16}
 use Rattle.stream_format.specs.declared.format.Rate.TheVariants.{R48}
 use Rattle.wav_reader.specs.declared.wav.Wav.{Wav}
-use Rattle.wav_reader.specs.Written.{stereo_file, stereo_format}
+use Rattle.wav_reader.specs.Written.{stereo_file}
 
 -- 48 kHz, 16 bits, 2 channels
 abbrev pub made_format : Format
@@ -37,12 +36,6 @@ first_frames number count = flat_map (made_frame number) (range_with_len 0 count
 -- all of them
 abbrev pub made_pcm : ℕ → List ℕ
 made_pcm number = first_frames number (frames_for number)
-
--- what stands in a WAV file before so many bytes of sound of this format
-abbrev pub wav_head : ℕ → List ℕ
-wav_head bytes =
-    (codes "RIFF" ++ (little_bytes 4 (36 + bytes) ++ codes "WAVE"))
-    ++ ((codes "fmt " ++ (little_bytes 4 16 ++ stereo_format R48)) ++ (codes "data" ++ little_bytes 4 bytes))
 
 -- the sound
 abbrev pub made_sound : ℕ → Wav

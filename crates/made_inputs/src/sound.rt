@@ -4,6 +4,7 @@ ghost use Rattle.made_inputs.specs.MadeSound as spec;
 
 use std::alloc::{AllocError, Global};
 use stream_format::{Bits, Format, Rate};
+use wav_writer::{WAV_HEAD_BYTES, wav_head};
 
 /// The format of the sound: 48 kHz, 16 bits, 2 channels.
 pub fn made_format() -> Format
@@ -50,22 +51,6 @@ fn push_frames(pcm: &mut Vec<u8>, number: u16, count: u32) -> Result<(), AllocEr
     Ok(())
 }
 
-/// What stands in a WAV file before so many bytes of sound of the format: its size, the chunk of the format (PCM, 2
-/// channels, 48,000 frames and 192,000 bytes a second, 4 bytes a frame, 16 bits a sample), and the head of the chunk of
-/// the sound.
-fn wav_head(bytes: u32) -> [u8; 44]
-    requires { bytes ≤ 203996 }
-    ensures { result ≡ spec.wav_head bytes }
-{
-    let size = (36 + bytes).to_le_bytes();
-    let count = bytes.to_le_bytes();
-    [
-        b'R', b'I', b'F', b'F', size[0], size[1], size[2], size[3], b'W', b'A', b'V', b'E', b'f',
-        b'm', b't', b' ', 16, 0, 0, 0, 1, 0, 2, 0, 0x80, 0xBB, 0, 0, 0, 0xEE, 2, 0, 4, 0, 16, 0,
-        b'd', b'a', b't', b'a', count[0], count[1], count[2], count[3],
-    ]
-}
-
 /// The WAV file that is made of a number N: 1,000 + N mod 50,000 frames of 16 bits and 2 channels at 48 kHz. Frame i,
 /// counted from 0, has left (7 i + N) mod 65,536 and right (13 i + N) mod 65,536.
 ///
@@ -76,8 +61,8 @@ pub fn made_wav(alloc: Global, number: u16) -> Result<Vec<u8>, AllocError>
 {
     let frames = frames_for(number);
     let bytes = 4 * frames;
-    let mut file = Vec::with_capacity(alloc, 44 + bytes as usize)?;
-    file.extend_from_slice(&wav_head(bytes))?;
+    let mut file = Vec::with_capacity(alloc, WAV_HEAD_BYTES + bytes as usize)?;
+    file.extend_from_slice(&wav_head(made_format(), bytes))?;
     push_frames(&mut file, number, frames)?;
     Ok(file)
 }

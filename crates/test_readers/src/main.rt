@@ -46,6 +46,7 @@ impl Cases for Calls {
             "changed" => sounds::tell_changed(alloc, rest),
             "front" => sounds::tell_front(alloc, rest),
             "length" => sounds::tell_length(alloc, rest),
+            "write" => sounds::tell_written(alloc, rest),
             "machine" => codec_files::tell(alloc, rest),
             "ask" => graphs::tell(alloc, rest),
             "plan" => plans::tell(alloc, rest),

@@ -45,7 +45,7 @@ fn push_plan(text: &mut String, plan: &Plan) -> Result<(), AllocError> {
 }
 
 /// The format of a rate, 2, 4, 6 or 8 channels, and samples of 16, 24 or 32 bits.
-fn format_named(rate: &[u8], channels: &[u8], bits: &[u8]) -> Format {
+pub(crate) fn format_named(rate: &[u8], channels: &[u8], bits: &[u8]) -> Format {
     let channels = match number_of(channels) {
         2 => 2,
         4 => 4,

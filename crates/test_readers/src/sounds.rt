@@ -1,10 +1,12 @@
-//! WAV files, read whole and opened on a shelf, and how long files are.
+//! WAV files, read whole, opened on a shelf and written, and how long files are.
+use crate::plans::format_named;
 use hda_outside::{ReadAll, SureShelf, file_length};
 use std::alloc::{AllocError, Global};
 use std::fmt::Write;
 use stream_format::Format;
 use test_cases::number_of;
 use wav_reader::{Wav, WavFault, WavHead, WavOpen, open_wav, read_wav};
+use wav_writer::{MOST_RING_BYTES, wav_file};
 
 /// The name of the one file on a shelf.
 const NAME: &str = "file";
@@ -32,16 +34,21 @@ fn push_format(
     )
 }
 
+/// Puts bytes, in hexadecimal digits.
+fn push_bytes(text: &mut String, bytes: &[u8]) -> Result<(), AllocError> {
+    for byte in bytes {
+        write!(text, "{byte:02x}")?;
+    }
+    Ok(())
+}
+
 /// Puts what was read of a file: its format, its frames, and the bytes for the ring.
 fn push_read(text: &mut String, read: &Result<Wav, WavFault>) -> Result<(), AllocError> {
     match read {
         Ok(wav) => {
             push_format(text, &wav.format, wav.mono, wav.frames)?;
             text.push(' ')?;
-            for byte in wav.pcm.as_slice() {
-                write!(text, "{byte:02x}")?;
-            }
-            Ok(())
+            push_bytes(text, wav.pcm.as_slice())
         }
         Err(fault) => write!(text, "{fault:?}"),
     }
@@ -102,6 +109,21 @@ pub fn tell_front(alloc: Global, words: &[Vec<u8>]) -> Result<String, AllocError
         Some(front) => file_text(alloc, front),
         None => format!(in alloc; "no front"),
     }
+}
+
+/// The file of the blocks of a ring, for a format.
+pub fn tell_written(alloc: Global, words: &[Vec<u8>]) -> Result<String, AllocError> {
+    let [rate, channels, bits, ring] = words else {
+        return format!(in alloc; "no blocks");
+    };
+    let format = format_named(rate, channels, bits);
+    let size = format.block_bytes() as usize;
+    if ring.len() % size != 0 || ring.len() > MOST_RING_BYTES as usize {
+        return format!(in alloc; "no whole blocks");
+    }
+    let mut text = String::new(alloc);
+    push_bytes(&mut text, &wav_file(alloc, format, ring)?)?;
+    Ok(text)
 }
 
 /// The length of a file of so many bytes where at most so many are asked for, and of one that is not there.

@@ -14,6 +14,10 @@ use Rattle.wav_reader.proofs.PlaceLemmas.{end_is, total_is}
 use Rattle.wav_reader.proofs.RingLemmas.{ring_bytes-slots, samples_in, slots-length}
 use Rattle.wav_reader.specs.Supplies.{Supplied, block_of, MayGive, EndsWith, IsTaken, IsFilled, without, taken_between, sound_before}
 use Rattle.wav_reader.specs.Fills.{IsNextOf}
+-- one piece of some bytes more
+pub use Rattle.wav_reader.proofs.PieceLemmas.{pieces-more}
+-- the samples of a ring's containers: how many bytes they have, and where they stand in a file as in the ring
+pub use Rattle.wav_reader.proofs.BlockLemmas.{samples-length, samples-same}
 
 -- the sound before so many bytes were taken
 abbrev pub with_taken : ℕ → Supplied → (later : List ℕ) → List ℕ

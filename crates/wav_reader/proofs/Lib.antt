@@ -2,11 +2,12 @@ pub mod Callers
 mod ChunkLemmas
 mod CountLemmas
 mod HeadLemmas
-mod PieceLemmas
+pub mod PieceLemmas
 mod RingLemmas
 mod SlotLemmas
 mod WrittenLemmas
 mod SoundLemmas
+pub mod BlockLemmas
 pub mod FrontLemmas
 pub mod OpeningLemmas
 pub mod StreamLemmas

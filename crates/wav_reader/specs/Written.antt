@@ -1,14 +1,17 @@
 -- A WAV file as it is written, chunk after chunk.
-use Rattle.std.specs.Prelude.{◌≡◌, ◌<◌, ℕ, ◌+◌, ◌*◌, ◌%◌, ◌++◌, List, [], ◌∷◌, length, replicate, codes}
+use Rattle.std.specs.Prelude.{◌≡◌, ◌<◌, ℕ, ◌+◌, ◌*◌, ◌/◌, ◌%◌, ◌++◌, List, [], ◌∷◌, length, replicate, drop, codes}
 use Rattle.std.specs.List.{flat_map}
 use Rattle.byteorder.specs.Endian.{little_bytes}
 use Rattle.wav_reader.specs.declared.chunks.Chunk.{Chunk}
 use Rattle.stream_format.specs.declared.format.Rate.{Rate}
-use Rattle.stream_format.specs.declared.format.Bits.TheVariants.{B16}
+use Rattle.stream_format.specs.declared.format.Bits.{Bits}
+use Rattle.stream_format.specs.declared.format.Bits.TheVariants.{B16, B24, B32}
+use Rattle.stream_format.specs.declared.format.Format.{Format}
 use Rattle.wav_reader.specs.declared.formats.ChannelCount.TheVariants.{Two}
 use Rattle.wav_reader.specs.declared.formats.Sound.{Sound}
 use Rattle.wav_reader.specs.Chunks.{kind_at, end_of}
-use Rattle.stream_format.specs.Cadence.{hertz}
+use Rattle.stream_format.specs.Cadence.{hertz, container_bytes}
+use Rattle.wav_reader.specs.Wavs.{pieces_of}
 use Rattle.wav_reader.specs.Formats.{channels_in, sample_length, pcm_tag, extensible_tag, pcm_subformat}
 
 -- a chunk that is to be written
@@ -42,14 +45,19 @@ placed at (part ∷ parts) = chunk_of at part ∷ placed (end_of (chunk_of at pa
 abbrev pub file_frame_bytes : Sound → ℕ
 file_frame_bytes sound = channels_in sound.channels * sample_length sound.bits
 
+-- sixteen bytes of the body of a chunk `fmt `: the form of the samples, how many channels a frame has, the frames and the
+-- bytes of a second, the bytes of a frame, and the bits of a sample
+abbrev pub format_numbers : (tag channels frames frame bits : ℕ) → List ℕ
+format_numbers tag channels frames frame bits =
+    little_bytes 2 tag
+    ++ (little_bytes 2 channels
+    ++ (little_bytes 4 frames ++ (little_bytes 4 (frame * frames) ++ (little_bytes 2 frame ++ little_bytes 2 bits))))
+
 -- the first sixteen bytes of the body of a chunk `fmt `, with some tag
 abbrev pub format_front : ℕ → Sound → List ℕ
 format_front tag sound =
-    little_bytes 2 tag
-    ++ (little_bytes 2 (channels_in sound.channels)
-    ++ (little_bytes 4 (hertz sound.rate)
-    ++ (little_bytes 4 (file_frame_bytes sound * hertz sound.rate)
-    ++ (little_bytes 2 (file_frame_bytes sound) ++ little_bytes 2 (8 * sample_length sound.bits)))))
+    format_numbers tag (channels_in sound.channels) (hertz sound.rate) (file_frame_bytes sound)
+    (8 * sample_length sound.bits)
 
 -- those that the extensible form has behind them: how many they are, any valid bits and any channel mask, and the
 -- subformat
@@ -81,3 +89,26 @@ stereo_format rate = plain_format (stereo_sound rate)
 
 abbrev pub stereo_file : Rate → List ℕ → List ℕ
 stereo_file rate frames = sound_file (stereo_format rate) frames
+
+-- ---- the blocks of a ring
+
+-- a container's sample as a file has it: one of 24 bits stands in the upper three of the container's four bytes
+abbrev pub file_sample : Bits → List ℕ → List ℕ
+file_sample B16 container = container
+file_sample B24 container = drop 1 container
+file_sample B32 container = container
+
+-- the samples of a ring's containers, one after another
+abbrev pub file_samples : Bits → List ℕ → List ℕ
+file_samples bits ring =
+    flat_map (file_sample bits) (pieces_of (container_bytes bits) ring (length ring / container_bytes bits))
+
+-- the body of a chunk `fmt ` for the blocks of a ring, in the plain form
+abbrev pub block_format : Format → List ℕ
+block_format format =
+    format_numbers pcm_tag format.channels (hertz format.rate) (format.channels * sample_length format.bits)
+    (8 * sample_length format.bits)
+
+-- the file of the blocks of a ring
+unfoldable pub block_file : Format → List ℕ → List ℕ
+block_file format ring = sound_file (block_format format) (file_samples format.bits ring)

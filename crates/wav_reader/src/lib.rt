@@ -44,7 +44,9 @@ mod supply;
 mod wav;
 
 pub use fault::WavFault;
-pub use laws::{all_chunks_are_found, written_chunks_are_read, written_sound_is_read};
+pub use laws::{
+    all_chunks_are_found, written_blocks_are_read, written_chunks_are_read, written_sound_is_read,
+};
 pub use opened::{MOST_WAV_BYTES, WavHead, WavOpen};
 pub use opening::open_wav;
 pub use supply::Supply;
