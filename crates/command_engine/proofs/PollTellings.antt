@@ -87,9 +87,9 @@ module _ (from read corb rirb : ℕ) (rings : RingPlaces) (stands : EachStands) 
   finish : (world : World) (reads : PollReads) (place : ℕ) → Stands from read corb rirb rings world → place < entries_of rings.rirb → world.registers.global.rirb_write_pointer ≡ place
       → read_to rings reads ≡ place → responses_in reads.entries ≡ map as_held (drop read world.written)
       → (part : RingPart) → part ≡ record (part_of world.registers) { response_flag = 0 }
-      → (registers : Fields) (input output : StreamState) → part_of registers ≡ part
-      → PollLeaves from read corb rirb rings reads (record world { registers = registers; input = input; output = output })
-  finish world reads place holds below at there says part cleared registers input output is =
+      → (registers : Fields) (input output : StreamState) (came : List Bool) → part_of registers ≡ part
+      → PollLeaves from read corb rirb rings reads (record world { registers = registers; input = input; output = output; came = came })
+  finish world reads place holds below at there says part cleared registers input output came is =
       let found = found_by rings reads in
       let both = after_poll from read corb rirb rings world holds place below at found (ap (answer_among (asked_of rings.outstanding)) says) in
       record {
@@ -122,7 +122,7 @@ module _ (from read corb rirb : ℕ) (rings : RingPlaces) (stands : EachStands) 
       let at : world.registers.global.rirb_write_pointer ≡ rings.read = holds.pointer ∙ ap (λ (n : ℕ). (rings.read + n) % entries_of rings.rirb) behind ∙ ap (λ (n : ℕ). n % entries_of rings.rirb) stays ∙ mod-eq_of_lt below in
       let unread : drop read world.written ≡ [] = drop_all read world.written (omega arith) in
       finish world reads rings.read holds below at (ap (λ (b : Bool). if b then reads.pointer % entries_of rings.rirb else rings.read) clear)
-      (ap responses_in (none_read reads.entries none) ∙ ap (map as_held) (sym unread)) (part_of world.registers) (ap (λ (flag : ℕ). record (part_of world.registers) { response_flag = flag }) zero_flag) world.registers world.input world.output refl
+      (ap responses_in (none_read reads.entries none) ∙ ap (map as_held) (sym unread)) (part_of world.registers) (ap (λ (flag : ℕ). record (part_of world.registers) { response_flag = flag }) zero_flag) world.registers world.input world.output world.came refl
 
   -- where the write pointer stands of all that was written
   abbrev stood : List Response → ℕ
@@ -143,7 +143,8 @@ module _ (from read corb rirb : ℕ) (rings : RingPlaces) (stands : EachStands) 
       let part : part_of new ≡ record (part_of world.registers) { response_flag = 0 } = ap part_of (write-response_flag world.registers has.out holds.1.0) in
       subst (λ (w : World). PollLeaves from read corb rirb rings reads w) (sym (plain_write world 0x5D 1 One (keeps-reset world.registers 0x5D One 1 (omega arith)) (keeps-left world.registers 0x5D One 1 (omega arith))))
       (finish world reads (stood all) holds.0 below (stands_at all world holds) there said (part_of new) part (happens.streams_settled world.registers new)
-      (settled_state world.registers.input new.input world.input) (settled_state world.registers.output new.output world.output) refl)
+      (settled_state world.registers.input new.input world.input) (settled_state world.registers.output new.output world.output)
+      (happens.settled_came world.registers.input new.input world.came) refl)
 
   batch_poll : (reads : PollReads) (middle new : Telling) → Stands from read corb rirb rings (world_of middle) → reads.flag ≡ (world_of middle).registers.global.response_flag → has_bit reads.flag 0 ≡ true
       → length reads.entries ≡ new_entries rings reads.pointer → All (λ (entry : List ℕ). length entry ≡ 8) reads.entries

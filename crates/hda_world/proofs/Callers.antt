@@ -156,3 +156,9 @@ pub use Rattle.hda_world.proofs.Moments.{AreHonest-front}
 pub use Rattle.hda_world.proofs.Streaming.{streams_both}
 -- a descriptor settles into itself
 pub use Rattle.hda_world.proofs.Writing.{settled_same}
+-- what all moves of the input stream keep is kept by each
+pub use Rattle.hda_world.proofs.Inputs.{by_moves}
+-- and what holds where it does not run
+pub use Rattle.hda_world.proofs.Inputs.{by_stopped}
+-- one change of a descriptor and then another
+pub use Rattle.hda_world.proofs.Inputs.{descriptor_both}

@@ -1,11 +1,8 @@
 -- What the device's steps leave alone.
-use Rattle.std.proofs.Common.{◌≡◌, ◌≢◌, ◌<◌, ℕ, ◌+◌, ◌*◌, ◌^◌, bit_or, Bool, true, false, cond, List, [], ◌∷◌, ◌++◌, length, map, fold, append-nil, refl, sym, ap, subst, ◌∙◌, append_assoc, Option, Some, if◌then◌else◌, ◌==◌, inl, inr, arith, rules, tests, lit<, length-append}
+use Rattle.std.proofs.Common.{◌≡◌, ◌≢◌, ◌<◌, ℕ, ◌+◌, ◌*◌, ◌^◌, bit_or, Bool, true, false, cond, List, [], ◌∷◌, ◌++◌, length, map, fold, append-nil, refl, sym, ap, subst, ◌∙◌, append_assoc, Option, Some, if◌then◌else◌, ◌==◌, inl, inr, arith, rules, tests}
 use Rattle.std.proofs.Math.Nat.{mod-lt}
 use Rattle.std.proofs.lemmas.Bool.{true≢false}
-use Rattle.byteorder.specs.Numbers.{length-bytes_low_first}
 use Rattle.codec_graph.specs.CodecStates.{CodecState, plugged, cleared}
-use Rattle.hda_registers.specs.declared.shapes.RingSize.{RingSize}
-use Rattle.hda_registers.specs.declared.shapes.RingSize.TheVariants.{Two, Sixteen, Full}
 use Rattle.hda_registers.specs.declared.shapes.Raise.TheVariants as event
 use Rattle.world_rings.specs.declared.response.Response.{Response}
 use Rattle.hda_registers.specs.Fields.{Fields, Global, Descriptor, entries_of, rirb_address, is_out_of_reset, is_running}

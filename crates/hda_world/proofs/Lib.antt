@@ -1,6 +1,7 @@
 mod Noting
 pub mod Callers
 pub mod Stepping
+pub mod Inputs
 pub mod Singly
 pub mod Telling
 pub mod Rows

@@ -206,10 +206,11 @@ streams_both first second third one other = record {
   input = other.input ∙ one.input;
   output = other.output ∙ one.output;
   carried = other.carried ∙ one.carried;
+  came = other.came ∙ one.came;
 }
 
 pub streams_same : (world : World) → StreamsStay world world
-streams_same world = record { input_registers = refl; output_registers = refl; input = refl; output = refl; carried = refl }
+streams_same world = record { input_registers = refl; output_registers = refl; input = refl; output = refl; carried = refl; came = refl }
 
 streams_if : (test : Bool) (old one other : World) → StreamsStay old one → StreamsStay old other → StreamsStay old (if test then one else other)
 streams_if true old one other first second = first
@@ -219,14 +220,14 @@ handed_streams : (next : Option ℕ) (world : World) → StreamsStay world (hand
 handed_streams None world = streams_same world
 handed_streams (Some word) world =
     streams_if (is_busy (codec_at (address_of word) world.codecs)) world world _ (streams_same world)
-    (record { input_registers = refl; output_registers = refl; input = refl; output = refl; carried = refl })
+    (record { input_registers = refl; output_registers = refl; input = refl; output = refl; carried = refl; came = refl })
 
 sent_streams : (items : List Waiting) (address : ℕ) (world : World) → StreamsStay world (sent_first address items world)
 sent_streams [] address world = streams_same world
-sent_streams (item ∷ items) address world = record { input_registers = refl; output_registers = refl; input = refl; output = refl; carried = refl }
+sent_streams (item ∷ items) address world = record { input_registers = refl; output_registers = refl; input = refl; output = refl; carried = refl; came = refl }
 
 responded_streams : (responses : List Response) (world : World) → StreamsStay world (responded responses world)
-responded_streams [] world = record { input_registers = refl; output_registers = refl; input = refl; output = refl; carried = refl }
+responded_streams [] world = record { input_registers = refl; output_registers = refl; input = refl; output = refl; carried = refl; came = refl }
 responded_streams (response ∷ responses) world =
     let same = global_after (response ∷ responses) world.registers in
     record {
@@ -235,6 +236,7 @@ responded_streams (response ∷ responses) world =
       input = refl;
       output = refl;
       carried = refl;
+      came = refl;
     }
 
 pub step_leaves_streams : (step : Step) (world : World) → NamesNoStream step → StreamsStay world (after_step step world)
@@ -243,12 +245,12 @@ step_leaves_streams (step.Answer codec) world none =
     streams_if (is_out_of_reset world.registers.global && nat_lt (length world.waiting) MOST_WAITING) world _ world
     (sent_streams (waiting_of (codec_at codec world.codecs)) codec world) (streams_same world)
 step_leaves_streams (step.Lose codec) world none =
-    streams_if (is_out_of_reset world.registers.global) world _ world (record { input_registers = refl; output_registers = refl; input = refl; output = refl; carried = refl }) (streams_same world)
+    streams_if (is_out_of_reset world.registers.global) world _ world (record { input_registers = refl; output_registers = refl; input = refl; output = refl; carried = refl; came = refl }) (streams_same world)
 step_leaves_streams step.Rirb world none = responded_streams (batch world.registers world.waiting) world
 step_leaves_streams (step.Fetch stream most) world none = absurd none
 step_leaves_streams (step.Link frames) world none = absurd none
-step_leaves_streams (step.Plug codec nid) world none = record { input_registers = refl; output_registers = refl; input = refl; output = refl; carried = refl }
-step_leaves_streams (step.Unplug codec nid) world none = record { input_registers = refl; output_registers = refl; input = refl; output = refl; carried = refl }
+step_leaves_streams (step.Plug codec nid) world none = record { input_registers = refl; output_registers = refl; input = refl; output = refl; carried = refl; came = refl }
+step_leaves_streams (step.Unplug codec nid) world none = record { input_registers = refl; output_registers = refl; input = refl; output = refl; carried = refl; came = refl }
 
 pub steps_leave_streams : (steps : List Step) (world : World) → All NamesNoStream steps → StreamsStay world (after_steps steps world)
 steps_leave_streams [] world none = streams_same world

@@ -1,5 +1,5 @@
 -- What writes of registers do to the streams.
-use Rattle.std.proofs.Common.{◌≡◌, ◌≢◌, ◌≤◌, ◌<◌, ◌/◌, inl, inr, nat_lt, ℕ, Bool, true, false, length, if◌then◌else◌, refl, sym, ap, subst, ◌∙◌, arith, rules, tests}
+use Rattle.std.proofs.Common.{◌≡◌, ◌≢◌, ◌≤◌, ◌<◌, ◌/◌, inl, inr, nat_lt, ℕ, Bool, true, false, List, length, if◌then◌else◌, refl, sym, ap, subst, ◌∙◌, arith, rules, tests}
 use Rattle.std.proofs.Math.Bool.{not-and_self, and-not_self}
 use Rattle.hda_registers.specs.declared.shapes.Width.{Width}
 use Rattle.hda_registers.specs.declared.shapes.Shape.{Shape}
@@ -9,7 +9,7 @@ use Rattle.hda_registers.specs.Laws.{IsBesideStreams, LeavesStreams}
 use Rattle.hda_registers.proofs.Callers.{leaves-streams, keeps-shape}
 use Rattle.world_streams.specs.Streams.{StreamState, begun, settled, settled_state}
 use Rattle.hda_world.specs.Worlds.{World}
-use Rattle.hda_world.specs.Events.{reset_if, counted_anew_if, registers_written, after_write}
+use Rattle.hda_world.specs.Events.{reset_if, counted_anew_if, registers_written, settled_came, after_write}
 use Rattle.hda_world.specs.Leaving.{StreamsStay}
 use Rattle.hda_world.specs.Streaming.{IsWithinFifo, HoldsFifo}
 use Rattle.hda_world.proofs.Leaving.{write_registers}
@@ -17,17 +17,20 @@ use Rattle.hda_world.proofs.Leaving.{write_registers}
 -- a reset and a fresh count leave the streams
 parts : (reset left : Bool) (world : World) →
     ((counted_anew_if left (reset_if reset world)).input ≡ world.input) × ((counted_anew_if left (reset_if reset world)).output ≡ world.output)
-    × ((counted_anew_if left (reset_if reset world)).carried ≡ world.carried)
-parts true true world = (refl, refl, refl)
-parts true false world = (refl, refl, refl)
-parts false true world = (refl, refl, refl)
-parts false false world = (refl, refl, refl)
+    × ((counted_anew_if left (reset_if reset world)).carried ≡ world.carried) × ((counted_anew_if left (reset_if reset world)).came ≡ world.came)
+parts true true world = (refl, refl, refl, refl)
+parts true false world = (refl, refl, refl, refl)
+parts false true world = (refl, refl, refl, refl)
+parts false false world = (refl, refl, refl, refl)
 
 pub settled_same : (d : Descriptor) → settled d d ≡ d
 settled_same d = rw (not-and_self (is_running d), and-not_self (is_running d)) refl
 
 state_same : (d : Descriptor) (state : StreamState) → settled_state d d state ≡ state
 state_same d state = rw (not-and_self (is_running d)) refl
+
+came_same : (d : Descriptor) (came : List Bool) → settled_came d d came ≡ came
+came_same d came = rw (not-and_self (is_running d)) refl
 
 -- a write that leaves both descriptors leaves both streams
 descriptors_left : (world : World) (at value : ℕ) (width : Width) → LeavesStreams world.registers (written world.registers at width value) → StreamsStay world (after_write at width value world)
@@ -40,6 +43,7 @@ descriptors_left world at value width left =
       input = rest.0 ∙ (ap (λ (d : Descriptor). settled_state world.registers.input d world.input) left.input ∙ state_same world.registers.input world.input);
       output = rest.1 ∙ (ap (λ (d : Descriptor). settled_state world.registers.output d world.output) left.output ∙ state_same world.registers.output world.output);
       carried = rest.2;
+      came = rest.3 ∙ (ap (λ (d : Descriptor). settled_came world.registers.input d world.came) left.input ∙ came_same world.registers.input world.came);
     }
 
 pub beside_streams : (world : World) (at value : ℕ) (width : Width) → at / 4 ≢ 2 → IsBesideStreams at → StreamsStay world (after_write at width value world)

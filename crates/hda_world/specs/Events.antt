@@ -1,10 +1,11 @@
 -- What happens to the world, event by event: steps of the device, and accesses of the driver between the marks of its
 -- runs. This project's own.
 use Rattle.std.specs.Prelude.{◌≡◌, ◌≤◌, ℕ, ◌+◌, Bool, true, false, List, [], ◌∷◌, length, slice_range, map}
+use Rattle.std.specs.Prelude.{if◌then◌else◌}
 use Rattle.codec_graph.specs.CodecStates.{cleared}
 use Rattle.hda_registers.specs.declared.shapes.Width.{Width}
-use Rattle.hda_registers.specs.Fields.{Fields}
-use Rattle.hda_registers.specs.Access.{value_at, written, effects_of}
+use Rattle.hda_registers.specs.Fields.{Fields, Descriptor}
+use Rattle.hda_registers.specs.Access.{value_at, written, effects_of, rose}
 use Rattle.world_rings.specs.Memory.{stored}
 use Rattle.world_streams.specs.Streams.{settled, settled_state}
 use Rattle.world_steps.specs.declared.Step.{Step}
@@ -35,12 +36,17 @@ counted_anew_if false world = world
 abbrev pub streams_settled : (old new : Fields) → Fields
 streams_settled old new = record new { input = settled old.input new.input; output = settled old.output new.output }
 
+-- what came to the input stream after a write: it begins anew where RUN rose
+abbrev pub settled_came : (old new : Descriptor) → List Bool → List Bool
+settled_came old new came = if rose old new then [] else came
+
 -- the world whose registers a write left so
 abbrev pub registers_written : Fields → World → World
 registers_written new world = record world {
   registers = streams_settled world.registers new;
   input = settled_state world.registers.input new.input world.input;
   output = settled_state world.registers.output new.output world.output;
+  came = settled_came world.registers.input new.input world.came;
 }
 
 -- the world after a write of a register (3.3)

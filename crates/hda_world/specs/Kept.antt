@@ -11,12 +11,15 @@ use Rattle.world_rings.specs.declared.response.TheConstants.{MOST_WAITING}
 use Rattle.world_rings.specs.Entries.{next_command, after_response, response_stored}
 use Rattle.world_rings.specs.Engines.{can_fetch, can_respond, batch}
 use Rattle.world_streams.specs.Lists.{is_good}
-use Rattle.world_streams.specs.Streams.{held, due, is_usable, broke}
+use Rattle.world_streams.specs.Streams.{Stream, held, due, is_usable, broke}
 use Rattle.world_streams.specs.Output.{next_of, completes, byte_came, Gap, Blocks, Hole}
+use Rattle.world_streams.specs.Input.{holds_byte, stored_byte, frame_took, marks_of}
 use Rattle.hda_world.specs.declared.step.TheConstants.{FRAMES_TO_DISCOVERY}
-use Rattle.hda_world.specs.Worlds.{World, codec_at, output_of, with_output}
+use Rattle.hda_world.specs.Worlds.{World, codec_at, output_of, with_output, input_of, with_input}
+use Rattle.hda_world.specs.Arriving.{arriving}
 use Rattle.hda_world.specs.Steps.{address_of, is_busy, handed, waiting_of, sent, lost, responded, discovered, passed}
-use Rattle.hda_world.specs.Steps.{output_framed, plugged_at}
+use Rattle.hda_world.specs.Steps.{output_framed, plugged_at, with_intake, storage_of, with_storage}
+use Rattle.hda_world.specs.Leaving.{DescriptorStays}
 
 -- the moves of the codecs are kept
 pub record KeptByCodecs (Holds : World → Type 0) : Type 0 where
@@ -73,6 +76,50 @@ pub record KeptByBytes (Holds : World → Type 0) : Type 0 where
       → Holds (with_output (broke (output_of world)) world)
   -- the registers can't be used
   pub refuses : (world : World) → Holds world → MustBreak world → Holds (with_output (broke (output_of world)) world)
+
+-- the input stream runs, and its registers can be used
+pub record CanTake (world : World) : Type 0 where
+  pub out : is_out_of_reset world.registers.global ≡ true
+  pub runs : is_running world.registers.input ≡ true
+  pub usable : is_usable world.registers.input ≡ true
+
+-- it runs, and they can't
+pub record MustBreakOff (world : World) : Type 0 where
+  pub out : is_out_of_reset world.registers.global ≡ true
+  pub runs : is_running world.registers.input ≡ true
+  pub unusable : is_usable world.registers.input ≡ false
+
+-- whether the buffer into which its next byte goes can be used
+abbrev pub goes_well : World → Bool
+goes_well world = is_good world.memory (next_of world.memory (list_address world.registers.input) world.input)
+
+-- the world once the input stream's oldest byte was stored
+abbrev pub byte_went : World → World
+byte_went world = with_storage (stored_byte (storage_of world)) world
+
+-- the world once the blocks that are due came to it
+abbrev pub blocks_arrived : World → World
+blocks_arrived world = with_intake (record {
+  stream = frame_took world.registers.shape.fifo (arriving world) (input_of world);
+  marks = marks_of world.registers.shape.fifo (arriving world) (input_of world);
+}) world
+
+-- the world once it stopped for an error of its descriptor
+abbrev pub input_broke : World → World
+input_broke world = with_input (broke (input_of world)) world
+
+-- the moves of the input stream are kept. A relation that looks at none of what they change is kept by each of them
+pub record KeptByInput (Holds : World → Type 0) : Type 0 where
+  -- a byte is stored
+  pub stores : (world : World) → Holds world → CanTake world → holds_byte world.input ≡ true → goes_well world ≡ true
+      → Holds (byte_went world)
+  -- the list has an entry that can't be used
+  pub jams : (world : World) → Holds world → CanTake world → holds_byte world.input ≡ true → goes_well world ≡ false
+      → Holds (input_broke world)
+  -- a link frame passes: the blocks that are due come, of which none, some or all are taken
+  pub takes : (world : World) → Holds world → CanTake world → Holds (blocks_arrived world)
+  -- the registers can't be used
+  pub refuses : (world : World) → Holds world → MustBreakOff world → Holds (input_broke world)
 
 -- what a link frame does to the running output stream is kept, after what else it does
 pub record KeptByFrames (Holds : World → Type 0) (before : World → World) : Type 0 where
@@ -147,3 +194,26 @@ pub record KeptSingly (Holds : World → Type 0) : Type 0 where
   pub announces : (world : World) → Holds world → is_out_of_reset world.registers.global ≡ true
       → world.frames ≡ FRAMES_TO_DISCOVERY → Holds (announced world)
   pub frames : KeptByFrames Holds unmoved
+
+-- ---- any move of the input stream
+
+-- what a move changes: memory, the stream and what came
+pub record InputChange : Type 0 where
+  pub memory : List ℕ
+  pub stream : Stream
+  pub came : List Bool
+
+abbrev pub input_moved : InputChange → World → World
+input_moved change world = record (with_input change.stream world) { memory = change.memory; came = change.came }
+
+-- it runs, memory keeps its size, and of its descriptor LPIB and the status bits alone change, and RUN where it stops
+pub record IsInputMove (world : World) (change : InputChange) : Type 0 where
+  pub out : is_out_of_reset world.registers.global ≡ true
+  pub runs : is_running world.registers.input ≡ true
+  pub size : length change.memory ≡ length world.memory
+  pub descriptor : DescriptorStays world.registers.input change.stream.descriptor
+
+-- every move of it is kept
+abbrev pub KeptByMoves : (World → Type 0) → Type 0
+KeptByMoves Holds = (world : World) (change : InputChange) → Holds world → IsInputMove world change
+    → Holds (input_moved change world)

@@ -109,10 +109,11 @@ NamesNoStream (step.Link frames) = ⊥
 NamesNoStream (step.Plug codec nid) = Unit {0}
 NamesNoStream (step.Unplug codec nid) = Unit {0}
 
--- both streams stay: their descriptors, their states, and what link frames carried
+-- both streams stay: their descriptors, their states, what link frames carried and what came
 pub record StreamsStay (old new : World) : Type 0 where
   pub input_registers : new.registers.input ≡ old.registers.input
   pub output_registers : new.registers.output ≡ old.registers.output
   pub input : new.input ≡ old.input
   pub output : new.output ≡ old.output
   pub carried : new.carried ≡ old.carried
+  pub came : new.came ≡ old.came

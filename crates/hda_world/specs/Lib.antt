@@ -1,4 +1,5 @@
 pub mod Worlds
+pub mod Arriving
 pub mod Steps
 pub mod Events
 pub mod Journals
@@ -6,6 +7,7 @@ pub mod JournalEvents
 pub mod Tellings
 pub mod Kept
 pub mod Leaving
+pub mod Buffers
 pub mod Unread
 pub mod Discovery
 pub mod Streaming

@@ -14,10 +14,13 @@ use Rattle.world_rings.specs.Engines.{next_word, batch, after_batch}
 use Rattle.world_rings.specs.declared.response.Response.{Response}
 use Rattle.world_rings.specs.declared.response.TheConstants.{MOST_WAITING}
 use Rattle.world_streams.specs.Output.{fetch, Frame, frame_of, after_frame, Carriage, carried_by}
+use Rattle.world_streams.specs.Input.{Intake, frame_move, Storage, store}
 use Rattle.world_steps.specs.declared.Step.{Step}
 use Rattle.world_steps.specs.declared.Step.TheVariants as step
 use Rattle.hda_world.specs.declared.step.TheConstants.{FRAMES_TO_DISCOVERY}
 use Rattle.hda_world.specs.Worlds.{World, TakenCommand, CarriedFrame, codec_at, with_codec, output_of, with_output}
+use Rattle.hda_world.specs.Worlds.{input_of, with_input}
+use Rattle.hda_world.specs.Arriving.{arriving}
 
 -- ---- commands
 
@@ -141,6 +144,14 @@ abbrev pub frame_step : World → World
 frame_step world =
     if is_out_of_reset world.registers.global then output_framed (frame_of (output_of world)) (passed world) else world
 
+-- the world with what a link frame left of the input stream
+abbrev pub with_intake : Intake → World → World
+with_intake intake world = record (with_input intake.stream world) { came = world.came ++ intake.marks }
+
+-- the input stream after a link frame
+abbrev pub input_framed : World → World
+input_framed world = with_intake (frame_move world.registers.shape.fifo (arriving world) (input_of world)) world
+
 -- n moves in a row
 abbrev pub times : ℕ → (World → World) → World → World
 times zero move world = world
@@ -151,6 +162,17 @@ times (suc n) move world = times n move (move world)
 -- the output stream fetched at most so many bytes
 abbrev pub output_fetched : ℕ → World → World
 output_fetched most world = with_output (fetch most world.registers.shape.fifo world.memory (output_of world)) world
+
+-- the memory and the input stream that stores there, and the world with a change of both
+abbrev pub storage_of : World → Storage
+storage_of world = record { memory = world.memory; stream = input_of world }
+
+abbrev pub with_storage : Storage → World → World
+with_storage storage world = record (with_input storage.stream world) { memory = storage.memory }
+
+-- the input stream stored at most so many bytes
+abbrev pub input_stored : ℕ → World → World
+input_stored most world = with_storage (store most (storage_of world)) world
 
 -- descriptor 1 is the output stream's; the input stream of descriptor 0 does not move yet
 abbrev pub fetch_step : ℕ → ℕ → World → World

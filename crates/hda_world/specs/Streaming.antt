@@ -1,12 +1,15 @@
--- What holds of the output stream at every moment: what its FIFO holds, where its position stands, what was sent. High
+-- What holds of the streams at every moment: what a FIFO holds, where the position stands, what was sent or taken. High
 -- Definition Audio 1.0a, 3.3.36, 3.3.37 and 4.5.
-use Rattle.std.specs.Prelude.{◌≡◌, ◌≤◌, ◌+◌, ◌%◌, ℕ, true, false, List, [], length, take, drop}
+use Rattle.std.specs.Prelude.{◌≡◌, ◌≤◌, ◌+◌, ◌%◌, ℕ, Bool, true, false, List, [], length, take, drop, All, Some}
 use Rattle.std.specs.List.{flat_map}
 use Rattle.hda_registers.specs.Fields.{Descriptor, is_running}
 use Rattle.hda_registers.specs.Status.{worth}
+use Rattle.stream_format.specs.Cadence.{bytes_of_block}
+use Rattle.stream_format.specs.Layouts.{Layout, layout_of}
 use Rattle.world_streams.specs.Streams.{StreamState, is_ready}
 use Rattle.world_streams.specs.Output.{Carriage, Sent, Missed}
-use Rattle.hda_world.specs.Worlds.{World, CarriedFrame, output_of}
+use Rattle.world_streams.specs.Input.{given_blocks, kept_by_marks}
+use Rattle.hda_world.specs.Worlds.{World, CarriedFrame, output_of, input_of}
 
 -- of so many bytes that entered a FIFO of this size so many left it
 pub record IsWithinFifo (left entered fifo : ℕ) : Type 0 where
@@ -52,3 +55,51 @@ pub record StaysStopped (descriptor : Descriptor) (state : StreamState) (carried
   pub registers : world.registers.output ≡ descriptor
   pub state_stays : world.output ≡ state
   pub carried_stays : world.carried ≡ carried
+
+-- ---- the input stream
+
+-- no byte is stored that was not taken, and none is taken for which there is no room
+abbrev pub HoldsTaken : World → Type 0
+HoldsTaken world = IsWithinFifo world.input.left (length world.input.entered) world.registers.shape.fifo
+
+-- while it runs LPIB is the bytes taken modulo CBL
+abbrev pub HasTakenPosition : World → Type 0
+HasTakenPosition world =
+    is_running world.registers.input ≡ true
+    → world.registers.input.link_position ≡ length world.input.entered % world.registers.input.buffer_length
+
+-- FIFORDY says whether it is ready
+abbrev pub ShowsTakenReady : World → Type 0
+ShowsTakenReady world = world.registers.input.fifo_ready ≡ worth (is_ready (input_of world)) 0
+
+-- a block of so many bytes came for each mark, and what entered is those that were taken, each once and in order
+pub record AreTaken (size : ℕ) (marks : List Bool) (entered : List ℕ) : Type 0 where
+  pub blocks : List (List ℕ)
+  pub each : All (λ block. length block ≡ size) blocks
+  pub count : length blocks ≡ length marks
+  pub bytes : entered ≡ kept_by_marks marks blocks
+
+-- while it runs with a format
+abbrev pub HasTaken : World → Type 0
+HasTaken world = is_running world.registers.input ≡ true → (layout : Layout)
+    → layout_of world.registers.input.format ≡ Some layout
+    → AreTaken (bytes_of_block layout.channels layout.bits) world.came world.input.entered
+
+-- the blocks of a sound that were taken, of those that came
+abbrev pub taken_sound : (size : ℕ) → (sound : List ℕ) → List Bool → List ℕ
+taken_sound size sound marks = kept_by_marks marks (given_blocks size sound 0 (length marks))
+
+-- while it runs with a format, what was taken is the given sound. That is kept while the one converter that takes the
+-- stream hears a pin
+abbrev pub HasTakenSound : World → Type 0
+HasTakenSound world = is_running world.registers.input ≡ true → (layout : Layout)
+    → layout_of world.registers.input.format ≡ Some layout
+    → world.input.entered ≡ taken_sound (bytes_of_block layout.channels layout.bits) world.given world.came
+
+-- an input stream that does not run stays as it is
+pub record StaysUntaken (descriptor : Descriptor) (state : StreamState) (came : List Bool) (world : World) : Type 0
+  where
+    pub stopped : is_running world.registers.input ≡ false
+    pub registers : world.registers.input ≡ descriptor
+    pub state_stays : world.input ≡ state
+    pub came_stays : world.came ≡ came

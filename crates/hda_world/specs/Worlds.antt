@@ -25,7 +25,8 @@ pub record CarriedFrame : Type 0 where
   pub carriage : Carriage
 
 -- everything that an access or a device step may read or change. The last three are histories: device steps only append
--- to them, and nothing ever shortens them.
+-- to them, and nothing ever shortens them. Device steps only append to what came, too, and it begins anew where RUN
+-- rises.
 pub record World : Type 0 where
   -- the region that the controller's engines reach, as bytes
   pub memory : List ℕ
@@ -39,6 +40,10 @@ pub record World : Type 0 where
   -- the streams of descriptor 0 and of descriptor 1
   pub input : StreamState
   pub output : StreamState
+  -- the sound that all input pins are given, as bytes: no step and no access changes it
+  pub given : List ℕ
+  -- of each block that came to the input stream since its RUN rose, oldest first, whether it was taken
+  pub came : List Bool
   -- the commands that codecs took, oldest first
   pub commands : List TakenCommand
   -- the responses that were written to RIRB, oldest first
@@ -55,6 +60,20 @@ with_output stream world = record world {
   registers = record world.registers { output = stream.descriptor };
   output = stream.state;
 }
+
+-- the same of the input stream
+abbrev pub input_of : World → Stream
+input_of world = record { descriptor = world.registers.input; state = world.input }
+
+abbrev pub with_input : Stream → World → World
+with_input stream world = record world {
+  registers = record world.registers { input = stream.descriptor };
+  input = stream.state;
+}
+
+-- the world in which input pins are given this sound
+abbrev pub given_sound : List ℕ → World → World
+given_sound sound world = record world { given = sound }
 
 -- the codec with this address, if there is one
 abbrev pub codec_at : ℕ → List CodecState → Option CodecState

@@ -24,7 +24,7 @@ access_stands End world is beside = cc
 access_stands (Read at width value) world is beside = streams_same world
 access_stands (Write at width value) world is beside = beside_streams world at value width beside.0.control beside.1
 access_stands (DmaRead at bytes) world is beside = streams_same world
-access_stands (DmaWrite at bytes) world is beside = record { input_registers = refl; output_registers = refl; input = refl; output = refl; carried = refl }
+access_stands (DmaWrite at bytes) world is beside = record { input_registers = refl; output_registers = refl; input = refl; output = refl; carried = refl; came = refl }
 
 -- accesses beside the sound leave it as it is
 pub accesses_stand : (accesses : List Event) (world : World) → AreAccesses accesses → All IsBesideSound accesses → StreamsStay world (after accesses world)
