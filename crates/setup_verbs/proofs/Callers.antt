@@ -21,6 +21,43 @@ pub use Rattle.setup_verbs.proofs.Final.{lead_to_hearing}
 pub use Rattle.setup_verbs.proofs.DigitalOpened.{lead_to_digital_set_up}
 -- each goes to the codec, and can be encoded where that is one of 0 to 14
 pub use Rattle.setup_verbs.proofs.Ranged.{all_commands_of}
+-- ---- for lists of verbs in the same steps, whatever the roles and the verbs are
+
+-- all of some verbs that put what is wanted settle each control that one of them sets
+pub use Rattle.setup_verbs.proofs.Settling.{IsWanted, Sets, settle}
+-- what amplifiers and choices are set to
+pub use Rattle.setup_verbs.proofs.Wanted.{select_wanted, input_wanted, output_wanted}
+-- what a verb of one control puts and sets
+pub use Rattle.setup_verbs.proofs.Wanted.{one_wanted, if_wanted, one_sets}
+-- what holds of all verbs, and which are among them
+pub use Rattle.setup_verbs.proofs.Members.{all_if, all_verbs_by, has_if, has_mapped, has_group_by, has_verb_by}
+-- the verbs of amplifiers put what is wanted, and set it
+pub use Rattle.setup_verbs.proofs.Amplified.{InputGood, outputs_good, pass_good, mixers_good, input_has, mixer_among}
+pub use Rattle.setup_verbs.proofs.Amplified.{output_left, output_right, pass_left, pass_right, mixer_left, mixer_right}
+-- an amplifier that is set so lets pass
+pub use Rattle.setup_verbs.proofs.Passing.{input_passes, output_passes}
+-- so do a mixer and what a node selects
+pub use Rattle.setup_verbs.proofs.Through.{IsInputSet, IsMixerSet, IsChoiceSet, CanMuteOthers, mixed_through, selected_through}
+-- what can be left by an index
+pub use Rattle.setup_verbs.proofs.Passing.{IsLeft, left_from}
+-- widgets of a well-formed graph: few inputs, amplifiers whose 0 dB step is one of theirs, none is the group
+pub use Rattle.setup_verbs.proofs.Faultless.{faultless_at, input_offset, output_offset, apart_at}
+-- what holds of each use holds of each node's role
+pub use Rattle.setup_verbs.proofs.RoleFacts.{role_all, within_list, leads_by}
+-- a use with which all others agree is the node's role, and the hops of one path agree
+pub use Rattle.setup_verbs.proofs.Sharing.{IsSolid, AreInner, role_found, inner_no_pin, hops_alike, hop_kind}
+-- roles after one route more
+pub use Rattle.setup_verbs.proofs.RoleLists.{entry_more, unused_at}
+-- lists of commands, joined
+pub use Rattle.setup_verbs.proofs.Lists.{five_lists, step_more, all_below}
+-- nodes that pass a test
+pub use Rattle.setup_verbs.proofs.Final.{Passing, passing, passed_at}
+-- what two tests say: of one that fails, and of the fourth of seven
+pub use Rattle.setup_verbs.proofs.Final.{not_true, fourth}
+-- a number that is there
+pub use Rattle.setup_verbs.proofs.Opened.{some_of}
+-- a verb whose argument fits, and its command
+pub use Rattle.setup_verbs.proofs.Ranged.{IsNarrow, Fits, short_fits, pass_fits, mixer_fits, output_fits, command_of}
 -- a candidate is a pin widget
 pub use Rattle.setup_verbs.proofs.Agreeing.{candidate_is_pin, candidate_is_pin_as}
 

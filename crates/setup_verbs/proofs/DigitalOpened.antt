@@ -1,11 +1,10 @@
 -- After the digital set-up verbs the codec is set up for its digital pins.
-use Rattle.std.proofs.Common.{◌≡◌, ◌≤◌, ℕ, length, get_or, subst}
+use Rattle.std.proofs.Common.{◌≤◌, ℕ, get_or, subst}
 use Rattle.codec_graph.specs.declared.raw.RawCodec.{RawCodec}
 use Rattle.codec_graph.specs.Settings.{Entries, IsSettingsOf}
 use Rattle.codec_graph.specs.Cycles.{IsWellFormed}
 use Rattle.stream_format.specs.declared.format.Format.{Format}
 use Rattle.codec_graph.specs.declared.pin_kind.PinKind.TheVariants.{Analog, Digital}
-use Rattle.route_planner.specs.declared.routes.PinPlan.{PinPlan}
 use Rattle.route_planner.specs.declared.routes.Plan.{Plan}
 use Rattle.route_planner.specs.Plans.{IsDigitalPlan}
 use Rattle.setup_verbs.specs.VerbList.{setup_verbs_as}

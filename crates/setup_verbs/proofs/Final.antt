@@ -43,24 +43,24 @@ use Rattle.setup_verbs.proofs.Opened.{PassedSet, passed_set, source_set, unused_
 use Rattle.setup_verbs.proofs.Heard.{others_muted, inner_gives, converter_gives, pin_hears_it}
 
 -- the node that passes a test
-record Passing (test : RawNode → Bool) (o : Option RawNode) : Type 0 where
+pub record Passing (test : RawNode → Bool) (o : Option RawNode) : Type 0 where
   pub node : RawNode
   pub there : o ≡ Some node
   pub passed : test node ≡ true
 
-passing : (test : RawNode → Bool) (o : Option RawNode) → passes test o ≡ true → Passing test o
+pub passing : (test : RawNode → Bool) (o : Option RawNode) → passes test o ≡ true → Passing test o
 passing test None e = absurd (true≢false (sym e))
 passing test (Some node) e = record { node = node; there = refl; passed = e }
 
-passed_at : (test : RawNode → Bool) (o : Option RawNode) (node : RawNode) → o ≡ Some node → passes test o ≡ true → test node ≡ true
+pub passed_at : (test : RawNode → Bool) (o : Option RawNode) (node : RawNode) → o ≡ Some node → passes test o ≡ true → test node ≡ true
 passed_at test o node there e = ap (λ p. passes test p) (sym there) ∙ e
 
-not_true : (b : Bool) → not b ≡ true → b ≡ false
+pub not_true : (b : Bool) → not b ≡ true → b ≡ false
 not_true true e = cc
 not_true false e = refl
 
 -- the fourth of seven tests that all pass
-fourth : (a b c d f g h : Bool) → (a && b && c && d && f && g && h) ≡ true → d ≡ true
+pub fourth : (a b c d f g h : Bool) → (a && b && c && d && f && g && h) ≡ true → d ≡ true
 fourth a b c true f g h e' = refl
 fourth true true true false f g h e' = cc
 fourth true true false d f g h e' = cc

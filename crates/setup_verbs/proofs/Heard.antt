@@ -1,12 +1,12 @@
 -- What an opened node gives, and what an opened pin hears.
-use Rattle.std.proofs.Common.{◌≡◌, ◌≢◌, ◌<◌, ◌≤◌, ◌+◌, ◌*◌, ◌/◌, ◌%◌, ◌^◌, ◌==◌, ◌&&◌, ◌||◌, ◌⊎◌, not, ℕ, Bool, true, false, cond, length, Option, Some, refl, ap, ◌∙◌, inl, inr, arith}
-use Rattle.std.specs.Prelude.{slice_get, nat_lt, nat_le, bit_and}
-use Rattle.std.proofs.lemmas.Bool.{and_from, eqb-true, eq-eqb, ne_eqb, lt-ltb, cases_eq}
+use Rattle.std.proofs.Common.{◌≡◌, ◌≢◌, ◌<◌, ◌≤◌, ◌+◌, ◌*◌, ◌/◌, ◌%◌, ◌^◌, ◌==◌, ◌&&◌, ◌||◌, not, ℕ, Bool, true, false, cond, length, Option, Some, refl, ap, ◌∙◌, arith}
+use Rattle.std.specs.Prelude.{slice_get, nat_lt, bit_and}
+use Rattle.std.proofs.lemmas.Bool.{and_from, eqb-true, eq-eqb, lt-ltb}
 use Rattle.std.proofs.lemmas.Bool.Decides.{nat_tests}
 use Rattle.codec_graph.specs.declared.raw.RawNode.{RawNode}
 use Rattle.codec_graph.specs.declared.raw.RawCodec.{RawCodec}
 use Rattle.codec_graph.specs.declared.controls.Control.TheVariants as control
-use Rattle.codec_graph.specs.Widget.{node_at, is_output_converter, is_mixer, is_selector, is_pin, is_stereo, input_amplifier_word}
+use Rattle.codec_graph.specs.Widget.{node_at, is_output_converter, is_mixer, is_selector, is_pin, is_stereo}
 use Rattle.codec_graph.specs.Settings.{Entries, setting_of, has_eapd}
 use Rattle.codec_graph.specs.VerbMeaning.{pin_bits}
 use Rattle.codec_graph.specs.Cycles.{IsWellFormed}
@@ -16,77 +16,44 @@ use Rattle.stream_format.specs.Words.{format_word}
 use Rattle.codec_sound.specs.declared.signals.Signal.{Signal}
 use Rattle.codec_sound.specs.declared.signals.Signal.TheVariants.{Silence, Pair, Altered}
 use Rattle.codec_sound.specs.declared.streams.LinkStream.{LinkStream}
-use Rattle.codec_sound.specs.Amplifiers.{changed_if, is_muted, after_output, after_input}
-use Rattle.codec_sound.specs.Signals.{stream_of, is_off, takes, takes_as, is_enabled, is_foreign, converts_otherwise, pair_from, tag_at, channel_at, converted, selected_place, selected, passed_on, made, given, is_silent_pin, comes_from, pin_hears}
+use Rattle.codec_sound.specs.Amplifiers.{changed_if, after_output}
+use Rattle.codec_sound.specs.Signals.{stream_of, is_off, takes, takes_as, is_enabled, is_foreign, converts_otherwise, pair_from, tag_at, channel_at, converted, selected, passed_on, made, given, is_silent_pin, comes_from, pin_hears}
 use Rattle.setup_verbs.specs.VerbList.{drives_headphone}
 use Rattle.setup_verbs.specs.SetUp.{AreSidesMuted}
-use Rattle.setup_verbs.proofs.Wanted.{input_wanted, pin_control_by}
-use Rattle.setup_verbs.proofs.Faultless.{faultless_at, input_offset, output_offset}
-use Rattle.setup_verbs.proofs.RoleFacts.{within_list}
-use Rattle.setup_verbs.proofs.Passing.{mixed_is, output_passes, input_passes, input_muted, mixed_one, made_cases, selector_case, converter_case, given_on, kept_mute, IsLeft}
+use Rattle.setup_verbs.proofs.Wanted.{pin_control_by}
+use Rattle.setup_verbs.proofs.Faultless.{output_offset}
+use Rattle.setup_verbs.proofs.Passing.{mixed_is, output_passes, made_cases, selector_case, converter_case, given_on, IsLeft}
+use Rattle.setup_verbs.proofs.Through.{IsMixerSet, IsChoiceSet, muted_beside, mixed_through, selected_is, selected_through}
 use Rattle.setup_verbs.proofs.Opened.{PassedSet, SourceSet, IsEnabledFor}
 use Rattle.codec_graph.specs.declared.pin_kind.PinKind.{PinKind}
 use Rattle.codec_graph.specs.declared.pin_kind.PinKind.TheVariants.{Analog, Digital}
 
 module _ (kind : PinKind) (codec : RawCodec) (well : IsWellFormed codec) (s : Entries) (nid : ℕ) (node : RawNode) (there : node_at codec nid ≡ Some node) where
+  -- the amplifiers of a mixer of a route, and its choice
+  mixer_set : (index : ℕ) → PassedSet kind codec s nid node index → is_mixer node ≡ true → IsMixerSet codec s nid node index
+  mixer_set index p is has place low = record { left = p.mix_left (and_from _ _ is has) place low; right = p.mix_right (and_from _ _ is has) place low }
+
+  choice_set : (index : ℕ) → PassedSet kind codec s nid node index → (is_selector node || is_pin node) ≡ true → IsChoiceSet s nid node index
+  choice_set index p which long = p.select (and_from _ _ which long)
+
   -- each other input of a mixer is muted
   pub others_muted : (index place : ℕ) → PassedSet kind codec s nid node index → IsLeft kind codec index node → is_mixer node ≡ true → index < length node.list → place < length node.list → place ≢ index → AreSidesMuted s nid place
-  others_muted index place p left is within low other =
-      let long : 2 ≤ length node.list = omega arith in
-      let can = left.mixes is long in
-      let mutes : input_wanted codec node index place ≡ _ = rw (ne_eqb place index other) refl in
-      record {
-        left = ap is_muted (p.mix_left (and_from _ _ is can.0) place low ∙ mutes) ∙ kept_mute (input_amplifier_word codec node) place can.1;
-        right = ap is_muted (p.mix_right (and_from _ _ is can.0) place low ∙ mutes) ∙ kept_mute (input_amplifier_word codec node) place can.1;
-      }
+  others_muted index place p left is within low other = muted_beside codec well s nid node there index place (mixer_set index p is) (left.mixes is) within low other
 
   mixer_made : (stream : LinkStream) (out : ℕ → Signal) (index from : ℕ) → PassedSet kind codec s nid node index → IsLeft kind codec index node → is_mixer node ≡ true → is_stereo node ≡ true → slice_get node.list index ≡ Some from → made kind codec s stream out nid node ≡ out from
   mixer_made stream out index from p left is stereo leads =
       ap (λ (M : Signal). cond (is_output_converter node) (converted kind s stream nid node) (cond (is_mixer node) M (cond (is_selector node) (changed_if (not (is_stereo node)) (passed_on codec s out nid node (selected s nid node))) Silence))) (mixed_is kind codec s out nid node left.unmixed is)
       ∙ made_cases (bits_of node.caps 20 4) (is_stereo node) _ _ _ (eqb-true (bits_of node.caps 20 4) 2 is) stereo
-      ∙ mixed_one codec s out nid node 0 index node.list index from leads (omega arith)
-      (λ x. input_passes codec s nid node index index x (input_offset codec nid node well there) refl (λ has. few index within) (λ has. p.mix_left (and_from _ _ is has) index within) (λ has. p.mix_right (and_from _ _ is has) index within))
-      (λ j x low high other. silent j x (omega arith) other)
-    where
-      within : index < length node.list
-      within = within_list node.list index from leads
-
-      few : (j : ℕ) → j < length node.list → j < 16
-      few j low = let z = (faultless_at codec nid node well there).inputs is in omega arith
-
-      silent : (j : ℕ) (x : Signal) → j < length node.list → j ≢ index → after_input codec s nid node j x ≡ Silence
-      silent j x low other =
-          let m = others_muted index j p left is within low other in
-          let w = within in
-          let long : 2 ≤ length node.list = omega arith in
-          input_muted codec s nid node j x (left.mixes is long).0 (few j low) m.left m.right
-
-  -- the selected place is the index
-  place_is : (index : ℕ) → PassedSet kind codec s nid node index → (is_selector node || is_pin node) ≡ true → index < length node.list → selected_place s nid node ≡ index
-  place_is index p which within = by (cases_eq (length node.list) 1)
-    where
-      by : (length node.list ≡ 1) ⊎ (length node.list ≢ 1) → cond (length node.list == 1) 0 (setting_of s nid control.Select) ≡ index
-      by (inl one) = rw (eq-eqb (length node.list) 1 one) (omega arith)
-      by (inr more) = rw (ne_eqb (length node.list) 1 more) (p.select (and_from _ _ which (long (length node.list) (omega arith))))
-        where
-          long : (n : ℕ) → 2 ≤ n → nat_le 2 n ≡ true
-          long n h = grind (arith, nat_tests)
-
-  selected_is : (index from : ℕ) → PassedSet kind codec s nid node index → (is_selector node || is_pin node) ≡ true → slice_get node.list index ≡ Some from → selected s nid node ≡ Some from
-  selected_is index from p which leads = ap (λ i. slice_get node.list i) (place_is index p which (within_list node.list index from leads)) ∙ leads
+      ∙ mixed_through codec well s nid node there out index from (mixer_set index p is) (left.mixes is) is leads
 
   selector_made : (stream : LinkStream) (out : ℕ → Signal) (index from : ℕ) → PassedSet kind codec s nid node index → IsLeft kind codec index node → is_selector node ≡ true → is_stereo node ≡ true → slice_get node.list index ≡ Some from → made kind codec s stream out nid node ≡ out from
   selector_made stream out index from p left is stereo leads =
       selector_case (bits_of node.caps 20 4) (is_stereo node) _ _ _ (eqb-true (bits_of node.caps 20 4) 3 is) stereo
-      ∙ ap (λ (o : Option ℕ). passed_on codec s out nid node o) (selected_is index from p which leads)
-      ∙ ap (λ i. after_input codec s nid node i (out from)) (place_is index p which within)
-      ∙ input_passes codec s nid node index index (out from) (input_offset codec nid node well there) refl (λ has. left.selects is has) (λ has. p.sel_left (and_from _ _ is has)) (λ has. p.sel_right (and_from _ _ is has))
+      ∙ selected_through codec well s nid node there out index from (choice_set index p which) (λ has. left.selects is has)
+      (λ has. record { left = p.sel_left (and_from _ _ is has); right = p.sel_right (and_from _ _ is has) }) leads
     where
       which : (is_selector node || is_pin node) ≡ true
       which = rw is refl
-
-      within : index < length node.list
-      within = within_list node.list index from leads
 
   -- a mixer or selector of a route gives what its connection gives
   pub inner_gives : (stream : LinkStream) (out : ℕ → Signal) (index from : ℕ) → PassedSet kind codec s nid node index → IsLeft kind codec index node → (is_mixer node || is_selector node) ≡ true → is_stereo node ≡ true → slice_get node.list index ≡ Some from → given kind codec s stream out nid node ≡ out from
@@ -160,7 +127,7 @@ module _ (kind : PinKind) (codec : RawCodec) (well : IsWellFormed codec) (s : En
   pin_hears_it out index from p is stereo own drives leads =
       sounds (is_silent_pin codec s nid node) loud
       ∙ rw (stereo, own) (output_passes codec s nid node (comes_from out (selected s nid node)) (output_offset codec nid node well there) p.out_left p.out_right)
-      ∙ ap (λ (o : Option ℕ). comes_from out o) (selected_is index from p which leads)
+      ∙ ap (λ (o : Option ℕ). comes_from out o) (selected_is codec well s nid node there index from (choice_set index p which) leads)
     where
       which : (is_selector node || is_pin node) ≡ true
       which = by (is_selector node)

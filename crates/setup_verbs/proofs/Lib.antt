@@ -6,10 +6,12 @@ pub mod Fitting
 pub mod Settling
 pub mod Wanted
 pub mod Members
+pub mod Amplified
 pub mod Steady
 pub mod Sharing
 pub mod Agreeing
 pub mod Passing
+pub mod Through
 pub mod Opened
 pub mod Heard
 pub mod Final

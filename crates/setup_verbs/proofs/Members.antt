@@ -14,11 +14,12 @@ use Rattle.verb_codes.specs.declared.verbs.Verb.TheVariants.{SetPower}
 use Rattle.stream_format.specs.declared.format.Format.{Format}
 use Rattle.codec_graph.specs.declared.pin_kind.PinKind.{PinKind}
 use Rattle.route_planner.specs.declared.routes.Plan.{Plan}
+use Rattle.setup_verbs.specs.declared.roles.Role.{Role}
 use Rattle.setup_verbs.specs.declared.steps.Step.{Step}
 use Rattle.setup_verbs.specs.declared.steps.Step.TheVariants.{Power, Silence, Release, Route}
 use Rattle.setup_verbs.specs.Roles.{role_of}
-use Rattle.setup_verbs.specs.VerbList.{only_if, command_to, to_below, to_all, at_widget, setup_verbs_as}
-use Rattle.setup_verbs.specs.Steps.{step_verbs, commands_at, commands_of}
+use Rattle.setup_verbs.specs.VerbList.{only_if, command_to, to_below, to_all, at_widget, step_at_by, step_by, setup_verbs_as}
+use Rattle.setup_verbs.specs.Steps.{StepVerbs, all_steps, step_verbs}
 
 -- ---- all
 
@@ -35,24 +36,31 @@ unfolding to_all
 all_all P step h = all_below P step 128 h
 
 -- a fact of the verbs of each step at each widget
-abbrev pub OfSteps : (Command → Type 0) → PinKind → RawCodec → Plan → Format → ℕ → Type 0
-OfSteps P kind codec plan format tag = (s : Step) (nid : ℕ) (node : RawNode) → node_at codec nid ≡ Some node
-    → All (λ (verb : Verb). P (command_to codec nid verb)) (step_verbs kind codec plan format tag s nid node (role_of plan nid))
+abbrev pub OfStepsBy : (Command → Type 0) → RawCodec → (roles : ℕ → Role) → StepVerbs → Type 0
+OfStepsBy P codec roles verbs = (s : Step) (nid : ℕ) (node : RawNode) → node_at codec nid ≡ Some node
+    → All (λ (verb : Verb). P (command_to codec nid verb)) (verbs s nid node (roles nid))
 
-all_step : (P : Command → Type 0) (kind : PinKind) (codec : RawCodec) (plan : Plan) (format : Format) (tag : ℕ) (s : Step) → OfSteps P kind codec plan format tag → All P (commands_of kind codec plan format tag s)
-all_step P kind codec plan format tag s of = all_all P (commands_at kind codec plan format tag s) (λ nid. All-map P (command_to codec nid) (at_widget (step_verbs kind codec plan format tag s nid) (node_at codec nid) (role_of plan nid)) (at nid (node_at codec nid) refl))
+all_step : (P : Command → Type 0) (codec : RawCodec) (roles : ℕ → Role) (verbs : StepVerbs) (s : Step) → OfStepsBy P codec roles verbs → All P (step_by codec roles (verbs s))
+all_step P codec roles verbs s of = all_all P (step_at_by codec roles (verbs s)) (λ nid. All-map P (command_to codec nid) (at_widget (verbs s nid) (node_at codec nid) (roles nid)) (at nid (node_at codec nid) refl))
   where
-    at : (nid : ℕ) (o : Option RawNode) → node_at codec nid ≡ o → All (λ (verb : Verb). P (command_to codec nid verb)) (at_widget (step_verbs kind codec plan format tag s nid) o (role_of plan nid))
+    at : (nid : ℕ) (o : Option RawNode) → node_at codec nid ≡ o → All (λ (verb : Verb). P (command_to codec nid verb)) (at_widget (verbs s nid) o (roles nid))
     at nid None e = All-nil (λ (verb : Verb). P (command_to codec nid verb))
     at nid (Some node) e = of s nid node e
 
+pub all_verbs_by : (P : Command → Type 0) (codec : RawCodec) (roles : ℕ → Role) (verbs : StepVerbs) → P (command_to codec codec.group (SetPower 0)) → OfStepsBy P codec roles verbs → All P (all_steps codec roles verbs)
+all_verbs_by P codec roles verbs group of =
+    All-cons P (command_to codec codec.group (SetPower 0)) _ group
+    (All-append P (step_by codec roles (verbs Power)) _ (all_step P codec roles verbs Power of)
+    (All-append P (step_by codec roles (verbs Silence)) _ (all_step P codec roles verbs Silence of)
+    (All-append P (step_by codec roles (verbs Release)) _ (all_step P codec roles verbs Release of) (all_step P codec roles verbs Route of))))
+
+-- so for the roles and the verbs of a plan
+abbrev pub OfSteps : (Command → Type 0) → PinKind → RawCodec → Plan → Format → ℕ → Type 0
+OfSteps P kind codec plan format tag = OfStepsBy P codec (role_of plan) (step_verbs kind codec plan format tag)
+
 pub all_verbs : (P : Command → Type 0) (kind : PinKind) (codec : RawCodec) (plan : Plan) (format : Format) (tag : ℕ) → P (command_to codec codec.group (SetPower 0)) → OfSteps P kind codec plan format tag → All P (setup_verbs_as kind codec plan format tag)
 unfolding setup_verbs_as
-all_verbs P kind codec plan format tag group of =
-    All-cons P (command_to codec codec.group (SetPower 0)) _ group
-    (All-append P (commands_of kind codec plan format tag Power) _ (all_step P kind codec plan format tag Power of)
-    (All-append P (commands_of kind codec plan format tag Silence) _ (all_step P kind codec plan format tag Silence of)
-    (All-append P (commands_of kind codec plan format tag Release) _ (all_step P kind codec plan format tag Release of) (all_step P kind codec plan format tag Route of))))
+all_verbs P kind codec plan format tag group of = all_verbs_by P codec (role_of plan) (step_verbs kind codec plan format tag) group of
 
 -- ---- members
 
@@ -75,28 +83,39 @@ has_all : (step : ℕ → List Command) (nid : ℕ) (command : Command) → nid 
 unfolding to_all
 has_all step nid command lt has = has_below step 128 nid command lt has
 
-has_step : (kind : PinKind) (codec : RawCodec) (plan : Plan) (format : Format) (tag : ℕ) (s : Step) (nid : ℕ) (node : RawNode) (verb : Verb) → nid < 128 → node_at codec nid ≡ Some node
-    → Contains (step_verbs kind codec plan format tag s nid node (role_of plan nid)) verb → Contains (commands_of kind codec plan format tag s) (command_to codec nid verb)
-has_step kind codec plan format tag s nid node verb lt there has =
-    has_all (commands_at kind codec plan format tag s) nid (command_to codec nid verb) lt
-    (has_mapped (command_to codec nid) (at_widget (step_verbs kind codec plan format tag s nid) (node_at codec nid) (role_of plan nid)) verb
-    (subst (λ (o : Option RawNode). Contains (at_widget (step_verbs kind codec plan format tag s nid) o (role_of plan nid)) verb) (sym there) has))
+has_step : (codec : RawCodec) (roles : ℕ → Role) (verbs : StepVerbs) (s : Step) (nid : ℕ) (node : RawNode) (verb : Verb) → nid < 128 → node_at codec nid ≡ Some node
+    → Contains (verbs s nid node (roles nid)) verb → Contains (step_by codec roles (verbs s)) (command_to codec nid verb)
+has_step codec roles verbs s nid node verb lt there has =
+    has_all (step_at_by codec roles (verbs s)) nid (command_to codec nid verb) lt
+    (has_mapped (command_to codec nid) (at_widget (verbs s nid) (node_at codec nid) (roles nid)) verb
+    (subst (λ (o : Option RawNode). Contains (at_widget (verbs s nid) o (roles nid)) verb) (sym there) has))
 
-pub has_group : (kind : PinKind) (codec : RawCodec) (plan : Plan) (format : Format) (tag : ℕ) → Contains (setup_verbs_as kind codec plan format tag) (command_to codec codec.group (SetPower 0))
-unfolding setup_verbs_as
-has_group kind codec plan format tag = (0, omega arith, refl)
+pub has_group_by : (codec : RawCodec) (roles : ℕ → Role) (verbs : StepVerbs) → Contains (all_steps codec roles verbs) (command_to codec codec.group (SetPower 0))
+has_group_by codec roles verbs = (0, omega arith, refl)
 
 has_cons : {X : Type 0} (x : X) (xs : List X) (y : X) → Contains xs y → Contains (x ∷ xs) y
 has_cons x xs y c = (suc c.0, omega (arith, c.1), c.2)
 
 -- a verb of a step at a widget is among all
+pub has_verb_by : (codec : RawCodec) (roles : ℕ → Role) (verbs : StepVerbs) (s : Step) (nid : ℕ) (node : RawNode) (verb : Verb) → nid < 128 → node_at codec nid ≡ Some node
+    → Contains (verbs s nid node (roles nid)) verb → Contains (all_steps codec roles verbs) (command_to codec nid verb)
+has_verb_by codec roles verbs s nid node verb lt there has = has_cons _ _ _ (by s (has_step codec roles verbs s nid node verb lt there has))
+  where
+    step_of : Step → List Command
+    step_of t = step_by codec roles (verbs t)
+
+    by : (t : Step) → Contains (step_of t) (command_to codec nid verb) → Contains (step_of Power ++ (step_of Silence ++ (step_of Release ++ step_of Route))) (command_to codec nid verb)
+    by Power c = Contains-append_left (step_of Power) _ _ c
+    by Silence c = Contains-append_right (step_of Power) _ _ (Contains-append_left (step_of Silence) _ _ c)
+    by Release c = Contains-append_right (step_of Power) _ _ (Contains-append_right (step_of Silence) _ _ (Contains-append_left (step_of Release) _ _ c))
+    by Route c = Contains-append_right (step_of Power) _ _ (Contains-append_right (step_of Silence) _ _ (Contains-append_right (step_of Release) _ _ c))
+
+-- so for the roles and the verbs of a plan
+pub has_group : (kind : PinKind) (codec : RawCodec) (plan : Plan) (format : Format) (tag : ℕ) → Contains (setup_verbs_as kind codec plan format tag) (command_to codec codec.group (SetPower 0))
+unfolding setup_verbs_as
+has_group kind codec plan format tag = has_group_by codec (role_of plan) (step_verbs kind codec plan format tag)
+
 pub has_verb : (kind : PinKind) (codec : RawCodec) (plan : Plan) (format : Format) (tag : ℕ) (s : Step) (nid : ℕ) (node : RawNode) (verb : Verb) → nid < 128 → node_at codec nid ≡ Some node
     → Contains (step_verbs kind codec plan format tag s nid node (role_of plan nid)) verb → Contains (setup_verbs_as kind codec plan format tag) (command_to codec nid verb)
 unfolding setup_verbs_as
-has_verb kind codec plan format tag s nid node verb lt there has = has_cons _ _ _ (by s (has_step kind codec plan format tag s nid node verb lt there has))
-  where
-    by : (t : Step) → Contains (commands_of kind codec plan format tag t) (command_to codec nid verb) → Contains (commands_of kind codec plan format tag Power ++ (commands_of kind codec plan format tag Silence ++ (commands_of kind codec plan format tag Release ++ commands_of kind codec plan format tag Route))) (command_to codec nid verb)
-    by Power c = Contains-append_left (commands_of kind codec plan format tag Power) _ _ c
-    by Silence c = Contains-append_right (commands_of kind codec plan format tag Power) _ _ (Contains-append_left (commands_of kind codec plan format tag Silence) _ _ c)
-    by Release c = Contains-append_right (commands_of kind codec plan format tag Power) _ _ (Contains-append_right (commands_of kind codec plan format tag Silence) _ _ (Contains-append_left (commands_of kind codec plan format tag Release) _ _ c))
-    by Route c = Contains-append_right (commands_of kind codec plan format tag Power) _ _ (Contains-append_right (commands_of kind codec plan format tag Silence) _ _ (Contains-append_right (commands_of kind codec plan format tag Release) _ _ c))
+has_verb kind codec plan format tag s nid node verb lt there has = has_verb_by codec (role_of plan) (step_verbs kind codec plan format tag) s nid node verb lt there has

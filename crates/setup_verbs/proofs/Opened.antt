@@ -1,18 +1,15 @@
 -- The settings after the set-up verbs, node by node.
-use Rattle.std.proofs.Common.{◌≡◌, ◌≢◌, ◌<◌, ◌+◌, ◌*◌, ◌^◌, ◌==◌, ◌&&◌, ◌||◌, not, ℕ, Bool, true, false, cond, [], map, length, Option, Some, None, zero-add, ◌⊎◌, inl, inr, refl, sym, ap, subst, ◌∙◌, arith, lit<}
-use Rattle.std.specs.Prelude.{Contains, nat_lt, nat_le, is_some, bit_and, max, min}
-use Rattle.std.specs.List.{range_with_len}
+use Rattle.std.proofs.Common.{◌≡◌, ◌≢◌, ◌<◌, ◌+◌, ◌*◌, ◌^◌, ◌==◌, ◌&&◌, ◌||◌, not, ℕ, Bool, true, false, length, Option, Some, None, ◌⊎◌, inl, inr, refl, sym, ap, subst, ◌∙◌, arith}
+use Rattle.std.specs.Prelude.{Contains, nat_le, is_some, bit_and}
 use Rattle.std.proofs.lemmas.Bool.{true≢false, and_parts, and_from, eq-eqb, ne_eqb, lt-ltb, cases_eq}
-use Rattle.std.proofs.lemmas.Nat.{mod_below}
 use Rattle.std.proofs.lemmas.List.Elements.{Contains-append_left, Contains-append_right}
-use Rattle.std.proofs.lemmas.List.FromFn.{get_or-range_with_len, length-range_with_len}
 use Rattle.codec_graph.specs.declared.raw.RawNode.{RawNode}
 use Rattle.codec_graph.specs.declared.raw.RawCodec.{RawCodec}
 use Rattle.codec_graph.specs.declared.controls.Control.{Control}
 use Rattle.codec_graph.specs.declared.controls.Control.TheVariants as control
-use Rattle.codec_graph.specs.Widget.{node_at, is_mixer, is_selector, is_pin, is_output_converter, is_converter, is_digital, has_power_control, has_input_amplifier, has_output_amplifier, input_amplifier_word, output_amplifier_word, amplifier_offset}
-use Rattle.codec_graph.specs.Settings.{Entries, key, setting_at, setting_of, has_control, widget_has, has_eapd, detects_presence, sends_unsolicited, amplified_inputs, IsSettingsOf}
-use Rattle.codec_graph.specs.VerbMeaning.{kept_amplifier, verb_writes, written, pin_bits, eapd_bits}
+use Rattle.codec_graph.specs.Widget.{node_at, is_mixer, is_selector, is_pin, is_output_converter, is_converter, is_digital, has_power_control, has_input_amplifier, has_output_amplifier, output_amplifier_word, amplifier_offset}
+use Rattle.codec_graph.specs.Settings.{Entries, key, setting_at, setting_of, has_control, widget_has, has_eapd, detects_presence, sends_unsolicited, IsSettingsOf}
+use Rattle.codec_graph.specs.VerbMeaning.{verb_writes, written, pin_bits, eapd_bits}
 use Rattle.codec_graph.specs.Cycles.{IsWellFormed}
 use Rattle.codec_graph.proofs.Callers.{node_below}
 use Rattle.codec_graph.proofs.Callers.{is_some-setting_at}
@@ -34,15 +31,16 @@ use Rattle.setup_verbs.specs.declared.steps.Step.TheVariants.{Power, Silence, Ro
 use Rattle.setup_verbs.specs.Roles.{role_of, is_used}
 use Rattle.setup_verbs.specs.Steps.{step_verbs, FitsVerbs, FitsWidget}
 use Rattle.setup_verbs.specs.SetUp.{settings_after}
-use Rattle.setup_verbs.specs.VerbList.{only_if, command_to, input_setting, output_setting, pass_input, mute_input, mixer_input, mixer_verbs, has_choice, select_verbs, selector_verbs, output_verbs, enable_verbs, source_verbs, source_verbs_as, pin_control, event_tag, pin_verbs, digital_pin_verbs, passed_verbs, passed_verbs_as, setup_verbs_as}
+use Rattle.setup_verbs.specs.VerbList.{only_if, command_to, output_setting, pass_input, mixer_input, mixer_verbs, has_choice, select_verbs, selector_verbs, output_verbs, enable_verbs, source_verbs, source_verbs_as, pin_control, event_tag, pin_verbs, digital_pin_verbs, passed_verbs, passed_verbs_as, setup_verbs_as}
 use Rattle.setup_verbs.proofs.Settling.{Sets, settle}
-use Rattle.setup_verbs.proofs.Wanted.{pin_control_as, digital_wanted, wanted, wanted-widget, wanted-power, widget_wanted, input_wanted, output_wanted, one_sets, left_sets, right_sets, input_writes, output_writes}
-use Rattle.setup_verbs.proofs.Members.{has_if, has_mapped, has_group, has_verb}
+use Rattle.setup_verbs.proofs.Wanted.{pin_control_as, digital_wanted, wanted, wanted-widget, wanted-power, widget_wanted, input_wanted, output_wanted, one_sets}
+use Rattle.setup_verbs.proofs.Members.{has_if, has_group, has_verb}
+use Rattle.setup_verbs.proofs.Amplified.{input_has, mixer_among, output_left, output_right, pass_left, pass_right, mixer_left, mixer_right}
 use Rattle.setup_verbs.proofs.Passing.{IsUnmixed}
 use Rattle.setup_verbs.proofs.Steady.{all_wanted}
 use Rattle.setup_verbs.proofs.Faultless.{apart_at}
 
-some_of : (o : Option ℕ) → is_some o ≡ true → (n : ℕ) × (o ≡ Some n)
+pub some_of : (o : Option ℕ) → is_some o ≡ true → (n : ℕ) × (o ≡ Some n)
 some_of None e = absurd (true≢false (sym e))
 some_of (Some n) e = (n, refl)
 
@@ -139,14 +137,10 @@ module _ (kind : PinKind) (codec : RawCodec) (plan : Plan) (format : Format) (ta
   out_among nid node (Source pair) used has = Contains-append_right (source_verbs_as kind format tag pair) (output_verbs codec node) _ (has_if (has_output_amplifier node) _ has)
 
   out_left_set : (nid : ℕ) (node : RawNode) → node_at codec nid ≡ Some node → (role : Role) → role_of plan nid ≡ role → is_used role ≡ true → has_output_amplifier node ≡ true → setting_of (settings_after codec settings (setup_verbs_as kind codec plan format tag)) nid control.OutLeft ≡ output_wanted codec node
-  out_left_set nid node there role is used has =
-      set_by nid node there role is Route control.OutLeft _ has (out_among nid node role used has)
-      (λ h. left_sets codec nid _ control.OutLeft control.OutRight (output_wanted codec node) (λ s. output_writes codec nid node (amplifier_offset (output_amplifier_word codec node)) there (mod_below _ (2 ^ 7) (lit< tt)) s) h)
+  out_left_set nid node there role is used has = set_by nid node there role is Route control.OutLeft _ has (out_among nid node role used has) (output_left codec nid node there)
 
   out_right_set : (nid : ℕ) (node : RawNode) → node_at codec nid ≡ Some node → (role : Role) → role_of plan nid ≡ role → is_used role ≡ true → has_output_amplifier node ≡ true → setting_of (settings_after codec settings (setup_verbs_as kind codec plan format tag)) nid control.OutRight ≡ output_wanted codec node
-  out_right_set nid node there role is used has =
-      set_by nid node there role is Route control.OutRight _ has (out_among nid node role used has)
-      (λ h. right_sets codec nid _ control.OutLeft control.OutRight (output_wanted codec node) (λ s. output_writes codec nid node (amplifier_offset (output_amplifier_word codec node)) there (mod_below _ (2 ^ 7) (lit< tt)) s) h)
+  out_right_set nid node there role is used has = set_by nid node there role is Route control.OutRight _ has (out_among nid node role used has) (output_right codec nid node there)
 
   -- the converter of a route
   pub source_set : (nid : ℕ) (node : RawNode) → node_at codec nid ≡ Some node → (pair : ℕ) → role_of plan nid ≡ Source pair → is_output_converter node ≡ true → is_foreign kind node ≡ false → SourceSet kind codec format tag (settings_after codec settings (setup_verbs_as kind codec plan format tag)) nid node pair
@@ -187,43 +181,10 @@ module _ (kind : PinKind) (codec : RawCodec) (plan : Plan) (format : Format) (ta
 
   -- ---- pins, mixers and selectors
 
-  input_has : (node : RawNode) (place : ℕ) → has_input_amplifier node ≡ true → place < 16 → place < length node.list → (has_input_amplifier node && nat_lt place (amplified_inputs node)) ≡ true
-  input_has node place has low within = and_from _ _ has (lt-ltb place (amplified_inputs node) (inside place (length node.list) low within))
-    where
-      inside : (p n : ℕ) → p < 16 → p < n → p < min 16 (max 1 n)
-      inside p n a b = omega arith
-
-  mixer_among : kind ≡ Analog → (nid : ℕ) (node : RawNode) (index place : ℕ) → (is_mixer node && has_input_amplifier node) ≡ true → place < length node.list → Contains (passed_verbs_as kind codec plan nid node index) (mixer_input codec node index place)
-  mixer_among same nid node index place has within =
+  mixer_verb : kind ≡ Analog → (nid : ℕ) (node : RawNode) (index place : ℕ) → (is_mixer node && has_input_amplifier node) ≡ true → place < length node.list → Contains (passed_verbs_as kind codec plan nid node index) (mixer_input codec node index place)
+  mixer_verb same nid node index place has within =
       subst (λ k. Contains (passed_verbs_as k codec plan nid node index) (mixer_input codec node index place)) (sym same)
-      (Contains-append_left (mixer_verbs codec node index) _ _ (by (is_mixer node && has_input_amplifier node) has))
-    where
-      in_range : Contains (range_with_len 0 (length node.list)) place
-      in_range = (place, rw (length-range_with_len 0 (length node.list)) within, get_or-range_with_len 0 (length node.list) place place within ∙ zero-add place)
-
-      by : (b : Bool) → b ≡ true → Contains (cond b (map (mixer_input codec node index) (range_with_len 0 (length node.list))) []) (mixer_input codec node index place)
-      by true e = has_mapped (mixer_input codec node index) (range_with_len 0 (length node.list)) place in_range
-      by false e = cc
-
-  pass_left : (nid : ℕ) (node : RawNode) (place : ℕ) → node_at codec nid ≡ Some node → place < 16 → has_control codec nid (control.InLeft place) ≡ true → Sets codec (command_to codec nid (pass_input codec node place)) nid (control.InLeft place)
-  pass_left nid node place there low h = left_sets codec nid _ (control.InLeft place) (control.InRight place) (kept_amplifier (input_amplifier_word codec node) (input_setting place false (amplifier_offset (input_amplifier_word codec node)))) (λ s. input_writes codec nid node place (amplifier_offset (input_amplifier_word codec node)) false there low (mod_below _ (2 ^ 7) (lit< tt)) s) h
-
-  pass_right : (nid : ℕ) (node : RawNode) (place : ℕ) → node_at codec nid ≡ Some node → place < 16 → has_control codec nid (control.InRight place) ≡ true → Sets codec (command_to codec nid (pass_input codec node place)) nid (control.InRight place)
-  pass_right nid node place there low h = right_sets codec nid _ (control.InLeft place) (control.InRight place) (kept_amplifier (input_amplifier_word codec node) (input_setting place false (amplifier_offset (input_amplifier_word codec node)))) (λ s. input_writes codec nid node place (amplifier_offset (input_amplifier_word codec node)) false there low (mod_below _ (2 ^ 7) (lit< tt)) s) h
-
-  mixer_left : (nid : ℕ) (node : RawNode) (index place : ℕ) → node_at codec nid ≡ Some node → place < 16 → has_control codec nid (control.InLeft place) ≡ true → Sets codec (command_to codec nid (mixer_input codec node index place)) nid (control.InLeft place)
-  mixer_left nid node index place there low h = by (place == index)
-    where
-      by : (b : Bool) → Sets codec (command_to codec nid (cond b (pass_input codec node place) (mute_input place))) nid (control.InLeft place)
-      by true = pass_left nid node place there low h
-      by false = left_sets codec nid _ (control.InLeft place) (control.InRight place) (kept_amplifier (input_amplifier_word codec node) (input_setting place true 0)) (λ s. input_writes codec nid node place 0 true there low (lit< tt) s) h
-
-  mixer_right : (nid : ℕ) (node : RawNode) (index place : ℕ) → node_at codec nid ≡ Some node → place < 16 → has_control codec nid (control.InRight place) ≡ true → Sets codec (command_to codec nid (mixer_input codec node index place)) nid (control.InRight place)
-  mixer_right nid node index place there low h = by (place == index)
-    where
-      by : (b : Bool) → Sets codec (command_to codec nid (cond b (pass_input codec node place) (mute_input place))) nid (control.InRight place)
-      by true = pass_right nid node place there low h
-      by false = right_sets codec nid _ (control.InLeft place) (control.InRight place) (kept_amplifier (input_amplifier_word codec node) (input_setting place true 0)) (λ s. input_writes codec nid node place 0 true there low (lit< tt) s) h
+      (Contains-append_left (mixer_verbs codec node index) _ _ (mixer_among codec node index place has within))
 
   -- a selector or pin with a choice gets its verb
   select_among : (nid : ℕ) (node : RawNode) (index : ℕ) → has_choice node ≡ true → (k : PinKind) → Contains (passed_verbs_as k codec plan nid node index) (SetSelect index)
@@ -270,10 +231,10 @@ module _ (kind : PinKind) (codec : RawCodec) (plan : Plan) (format : Format) (ta
     select = λ h. set_by nid node there (Passed index) is Route control.Select (SetSelect index) (choice_has node h)
         (select_among nid node index h kind)
         (λ has. one_sets codec nid (SetSelect index) control.Select index (λ s. select_writes s) has);
-    mix_left = λ h place low. set_by nid node there (Passed index) is Route (control.InLeft place) (mixer_input codec node index place) (input_has node place (and_parts _ _ h).1 (few h place low) low) (mixer_among (mixes_analog node kind unmixed h) nid node index place h low) (mixer_left nid node index place there (few h place low));
-    mix_right = λ h place low. set_by nid node there (Passed index) is Route (control.InRight place) (mixer_input codec node index place) (input_has node place (and_parts _ _ h).1 (few h place low) low) (mixer_among (mixes_analog node kind unmixed h) nid node index place h low) (mixer_right nid node index place there (few h place low));
-    sel_left = λ h. set_by nid node there (Passed index) is Route (control.InLeft index) (pass_input codec node index) (input_has node index (and_parts _ _ h).1 (near h) within) (selector_among (selects_analog node kind unmixed h) nid node index h) (pass_left nid node index there (near h));
-    sel_right = λ h. set_by nid node there (Passed index) is Route (control.InRight index) (pass_input codec node index) (input_has node index (and_parts _ _ h).1 (near h) within) (selector_among (selects_analog node kind unmixed h) nid node index h) (pass_right nid node index there (near h));
+    mix_left = λ h place low. set_by nid node there (Passed index) is Route (control.InLeft place) (mixer_input codec node index place) (input_has node place (and_parts _ _ h).1 (few h place low) low) (mixer_verb (mixes_analog node kind unmixed h) nid node index place h low) (mixer_left codec nid node there index place (few h place low));
+    mix_right = λ h place low. set_by nid node there (Passed index) is Route (control.InRight place) (mixer_input codec node index place) (input_has node place (and_parts _ _ h).1 (few h place low) low) (mixer_verb (mixes_analog node kind unmixed h) nid node index place h low) (mixer_right codec nid node there index place (few h place low));
+    sel_left = λ h. set_by nid node there (Passed index) is Route (control.InLeft index) (pass_input codec node index) (input_has node index (and_parts _ _ h).1 (near h) within) (selector_among (selects_analog node kind unmixed h) nid node index h) (pass_left codec nid node there index (near h));
+    sel_right = λ h. set_by nid node there (Passed index) is Route (control.InRight index) (pass_input codec node index) (input_has node index (and_parts _ _ h).1 (near h) within) (selector_among (selects_analog node kind unmixed h) nid node index h) (pass_right codec nid node there index (near h));
     eapd = λ h. set_by nid node there (Passed index) is Route control.Eapd (SetEapd 0x02) h (eapd_among nid node index h kind) (λ has. one_sets codec nid (SetEapd 0x02) control.Eapd (bit_and 0x02 eapd_bits) (λ s. refl) has);
     pin = λ h. set_by nid node there (Passed index) is Route control.Pin (SetPin (pin_control_as kind node)) h (pin_among nid node index h kind) (λ has. one_sets codec nid (SetPin (pin_control_as kind node)) control.Pin (bit_and (pin_control_as kind node) pin_bits) (λ s. refl) has);
   }

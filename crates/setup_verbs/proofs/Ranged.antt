@@ -38,10 +38,10 @@ use Rattle.setup_verbs.proofs.RoleFacts.{IsUsedWell, role_well}
 use Rattle.setup_verbs.proofs.Fitting.{fits_verbs}
 
 -- a verb whose argument fits
-abbrev Fits : Verb → Type 0
+abbrev pub Fits : Verb → Type 0
 Fits verb = is_verb_in_range verb ≡ true
 
-short_fits : (n width : ℕ) → n < 2 ^ width → (nat_lt n (2 ^ width) && true) ≡ true
+pub short_fits : (n width : ℕ) → n < 2 ^ width → (nat_lt n (2 ^ width) && true) ≡ true
 short_fits n width h = rw (lt-ltb n (2 ^ width) h) refl
 
 input_small : (place gain : ℕ) (mute : Bool) → place < 16 → gain < 128 → amplifiers.setting_payload (input_setting place mute gain) < 2 ^ 16
@@ -63,13 +63,13 @@ place_small (entry ∷ entries) pin = by (entry.pin == pin) (place_small entries
     by false h = omega arith
 
 -- an index fits a byte
-abbrev IsNarrow : Role → Type 0
+abbrev pub IsNarrow : Role → Type 0
 IsNarrow Unused = Unit {0}
 IsNarrow (Passed index) = index < 2 ^ 8
 IsNarrow (Source pair) = Unit {0}
 
-module _ (kind : PinKind) (codec : RawCodec) (plan : Plan) (format : Format) (tag nid : ℕ) (node : RawNode) (few : tag ≤ 15) where
-  pass_fits : (place : ℕ) → place < 16 → Fits (pass_input codec node place)
+module _ (codec : RawCodec) (node : RawNode) where
+  pub pass_fits : (place : ℕ) → place < 16 → Fits (pass_input codec node place)
   pass_fits place low = short_fits _ 16 (input_small place (amplifier_offset (input_amplifier_word codec node)) false low (offset_small (input_amplifier_word codec node)))
 
   input_fits : (index place : ℕ) → place < 16 → Fits (mixer_input codec node index place)
@@ -79,7 +79,7 @@ module _ (kind : PinKind) (codec : RawCodec) (plan : Plan) (format : Format) (ta
       by true = pass_fits place low
       by false = short_fits _ 16 (input_small place 0 true low (lit< tt))
 
-  mixer_fits : (index : ℕ) → (is_mixer node ≡ true → length node.list ≤ 16) → All Fits (mixer_verbs codec node index)
+  pub mixer_fits : (index : ℕ) → (is_mixer node ≡ true → length node.list ≤ 16) → All Fits (mixer_verbs codec node index)
   mixer_fits index short = by (is_mixer node && has_input_amplifier node) refl
     where
       by : (b : Bool) → (is_mixer node && has_input_amplifier node) ≡ b → All Fits (cond b (map (mixer_input codec node index) (range_with_len 0 (length node.list))) [])
@@ -89,9 +89,10 @@ module _ (kind : PinKind) (codec : RawCodec) (plan : Plan) (format : Format) (ta
           subst (λ place. Fits (mixer_input codec node index place)) (sym (get_or-range_with_len 0 (length node.list) k d low ∙ zero-add k)) (input_fits index k (omega (arith, short (and_parts _ _ e).0))))
       by false e = All-nil Fits
 
-  output_fits : All Fits (output_verbs codec node)
+  pub output_fits : All Fits (output_verbs codec node)
   output_fits = all_if Fits (has_output_amplifier node) _ (λ h. short_fits _ 16 (output_small (amplifier_offset (output_amplifier_word codec node)) (offset_small (output_amplifier_word codec node))))
 
+module _ (kind : PinKind) (codec : RawCodec) (plan : Plan) (format : Format) (tag nid : ℕ) (node : RawNode) (few : tag ≤ 15) where
   pin_control_fits : pin_control node < 2 ^ 8
   pin_control_fits = by (drives_headphone node)
     where
@@ -108,16 +109,16 @@ module _ (kind : PinKind) (codec : RawCodec) (plan : Plan) (format : Format) (ta
 
   passed_fits : (k : PinKind) (index : ℕ) → FitsWidget plan node (Passed index) → index < 2 ^ 8 → All Fits (passed_verbs_as k codec plan nid node index)
   passed_fits Analog index fits narrow =
-      All-append Fits (mixer_verbs codec node index) _ (mixer_fits index fits.inputs)
+      All-append Fits (mixer_verbs codec node index) _ (mixer_fits codec node index fits.inputs)
       (All-append Fits (select_verbs node index) _ (all_if Fits (has_choice node) _ (λ h. short_fits index 8 narrow))
-      (All-append Fits (selector_verbs codec node index) _ (all_if Fits (is_selector node && has_input_amplifier node) _ (λ h. pass_fits index (fits.argument h)))
-      (All-append Fits (output_verbs codec node) _ output_fits
+      (All-append Fits (selector_verbs codec node index) _ (all_if Fits (is_selector node && has_input_amplifier node) _ (λ h. pass_fits codec node index (fits.argument h)))
+      (All-append Fits (output_verbs codec node) _ (output_fits codec node)
       (All-append Fits (only_if (has_eapd node) (SetEapd 0x02)) _ eapd_fits
       (All-append Fits (only_if (detects_presence node && sends_unsolicited node) (SetUnsol (0x80 + event_tag plan nid))) _ (all_if Fits (detects_presence node && sends_unsolicited node) _ (λ h. short_fits _ 8 (let z = place_small plan.pins nid in let y = fits.pins in omega arith)))
       (all_if Fits (is_pin node) _ (λ h. short_fits _ 8 pin_control_fits)))))))
   passed_fits Digital index fits narrow =
       All-append Fits (select_verbs node index) _ (all_if Fits (has_choice node) _ (λ h. short_fits index 8 narrow))
-      (All-append Fits (output_verbs codec node) _ output_fits
+      (All-append Fits (output_verbs codec node) _ (output_fits codec node)
       (All-append Fits (only_if (has_eapd node) (SetEapd 0x02)) _ eapd_fits
       (all_if Fits (is_pin node) _ (λ h. refl))))
 
@@ -127,7 +128,7 @@ module _ (kind : PinKind) (codec : RawCodec) (plan : Plan) (format : Format) (ta
   route_fits (Source pair) fits narrow =
       All-cons Fits (SetFormat (format_word format)) (SetStream (tag * 2 ^ 4 + 2 * pair) ∷ (enable_verbs kind ++ output_verbs codec node)) (short_fits (format_word format) 16 (word_small format))
       (All-cons Fits (SetStream (tag * 2 ^ 4 + 2 * pair)) (enable_verbs kind ++ output_verbs codec node) (short_fits _ 8 (let z = fits.argument in omega arith))
-      (All-append Fits (enable_verbs kind) (output_verbs codec node) (enable_fits kind) output_fits))
+      (All-append Fits (enable_verbs kind) (output_verbs codec node) (enable_fits kind) (output_fits codec node)))
 
   step_fits : (s : Step) (role : Role) → FitsWidget plan node role → IsNarrow role → All Fits (step_verbs kind codec plan format tag s nid node role)
   step_fits Power role fits narrow = all_if Fits (is_used role && has_power_control node) (SetPower 0) (λ h. refl)
@@ -140,7 +141,7 @@ narrow_role kind codec channels nid Unused well w = tt
 narrow_role kind codec channels nid (Passed index) well w = let short = (IsBounded-from_sound codec well.tables).short nid in let listed = w.listed in omega arith
 narrow_role kind codec channels nid (Source pair) well w = tt
 
-command_of : (codec : RawCodec) (nid : ℕ) (verb : Verb) → nid < 128 → Fits verb → IsCommandOf codec (command_to codec nid verb)
+pub command_of : (codec : RawCodec) (nid : ℕ) (verb : Verb) → nid < 128 → Fits verb → IsCommandOf codec (command_to codec nid verb)
 command_of codec nid verb below fits = record {
   address = refl;
   in_range = λ address. record { codec = address; nid = omega arith; verb = fits };

@@ -112,21 +112,26 @@ inner_alike codec (hop ∷ hops) from to (suc i) (suc j) d well leads inner with
     let next = match_some (connection codec from hop.index) (λ n. LeadsTo codec n hops to) leads.1 in
     inner_alike codec hops next.0 to i j d well next.2 (All-tail (λ (h : Hop). passes is_inner (node_at codec h.nid) ≡ true) hop hops inner) (omega arith) (omega arith) same
 
--- the hops of a pin's path: the pin's, and those of mixers and selectors
-pub path_alike : (codec : RawCodec) (hops : List Hop) (pin to i j : ℕ) (d : Hop) → IsWellFormed codec → passes is_pin (node_at codec pin) ≡ true → LeadsTo codec pin hops to → AreInner codec (drop 1 hops) → i < length hops → j < length hops
+-- the hops of a path that begins at no mixer or selector: that of the node it begins at, and those of mixers and selectors
+pub hops_alike : (codec : RawCodec) (hops : List Hop) (from to i j : ℕ) (d : Hop) → IsWellFormed codec → (passes is_inner (node_at codec from) ≡ true → ⊥) → LeadsTo codec from hops to → AreInner codec (drop 1 hops) → i < length hops → j < length hops
     → (get_or hops i d).nid ≡ (get_or hops j d).nid → (get_or hops i d).index ≡ (get_or hops j d).index
-path_alike codec [] pin to i j d well is leads inner within within' same = absurd (omega arith)
-path_alike codec (hop ∷ hops) pin to zero zero d well is leads inner within within' same = refl
-path_alike codec (hop ∷ hops) pin to zero (suc j) d well is leads inner within within' same =
-    absurd (inner_no_pin (node_at codec pin) (ap (λ n. passes is_inner (node_at codec n)) (sym leads.0 ∙ same) ∙ inner j d (omega arith)) is)
-path_alike codec (hop ∷ hops) pin to (suc i) zero d well is leads inner within within' same =
-    absurd (inner_no_pin (node_at codec pin) (ap (λ n. passes is_inner (node_at codec n)) (sym leads.0 ∙ sym same) ∙ inner i d (omega arith)) is)
-path_alike codec (hop ∷ hops) pin to (suc i) (suc j) d well is leads inner within within' same =
-    let next = match_some (connection codec pin hop.index) (λ n. LeadsTo codec n hops to) leads.1 in
+hops_alike codec [] from to i j d well outer leads inner within within' same = absurd (omega arith)
+hops_alike codec (hop ∷ hops) from to zero zero d well outer leads inner within within' same = refl
+hops_alike codec (hop ∷ hops) from to zero (suc j) d well outer leads inner within within' same =
+    absurd (outer (ap (λ n. passes is_inner (node_at codec n)) (sym leads.0 ∙ same) ∙ inner j d (omega arith)))
+hops_alike codec (hop ∷ hops) from to (suc i) zero d well outer leads inner within within' same =
+    absurd (outer (ap (λ n. passes is_inner (node_at codec n)) (sym leads.0 ∙ sym same) ∙ inner i d (omega arith)))
+hops_alike codec (hop ∷ hops) from to (suc i) (suc j) d well outer leads inner within within' same =
+    let next = match_some (connection codec from hop.index) (λ n. LeadsTo codec n hops to) leads.1 in
     inner_alike codec hops next.0 to i j d well next.2 inner (omega arith) (omega arith) same
 
--- a hop of a pin's path leaves the pin or a mixer or selector
-pub hop_kind : (codec : RawCodec) (hops : List Hop) (pin to : ℕ) → LeadsTo codec pin hops to → AreInner codec (drop 1 hops) → (k : ℕ) (d : Hop) → k < length hops → ((get_or hops k d).nid ≡ pin) ⊎ (passes is_inner (node_at codec (get_or hops k d).nid) ≡ true)
-hop_kind codec [] pin to leads inner k d within = absurd (omega arith)
-hop_kind codec (hop ∷ hops) pin to leads inner zero d within = inl leads.0
-hop_kind codec (hop ∷ hops) pin to leads inner (suc k) d within = inr (inner k d (omega arith))
+-- so those of a pin's path
+pub path_alike : (codec : RawCodec) (hops : List Hop) (pin to i j : ℕ) (d : Hop) → IsWellFormed codec → passes is_pin (node_at codec pin) ≡ true → LeadsTo codec pin hops to → AreInner codec (drop 1 hops) → i < length hops → j < length hops
+    → (get_or hops i d).nid ≡ (get_or hops j d).nid → (get_or hops i d).index ≡ (get_or hops j d).index
+path_alike codec hops pin to i j d well is leads inner within within' same = hops_alike codec hops pin to i j d well (λ e. inner_no_pin (node_at codec pin) e is) leads inner within within' same
+
+-- a hop of a path leaves the node at which it begins, or a mixer or selector
+pub hop_kind : (codec : RawCodec) (hops : List Hop) (from to : ℕ) → LeadsTo codec from hops to → AreInner codec (drop 1 hops) → (k : ℕ) (d : Hop) → k < length hops → ((get_or hops k d).nid ≡ from) ⊎ (passes is_inner (node_at codec (get_or hops k d).nid) ≡ true)
+hop_kind codec [] from to leads inner k d within = absurd (omega arith)
+hop_kind codec (hop ∷ hops) from to leads inner zero d within = inl leads.0
+hop_kind codec (hop ∷ hops) from to leads inner (suc k) d within = inr (inner k d (omega arith))

@@ -1,18 +1,15 @@
 -- Each set-up verb sets what is wanted.
-use Rattle.std.proofs.Common.{◌≡◌, ◌<◌, ◌≤◌, ◌+◌, ◌*◌, ◌^◌, ◌==◌, ◌&&◌, ℕ, Bool, true, false, cond, [], ◌∷◌, ◌++◌, map, length, Some, zero-add, refl, sym, ap, subst, ◌∙◌, arith, lit<}
+use Rattle.std.proofs.Common.{◌≡◌, ◌+◌, ◌*◌, ◌^◌, ◌&&◌, ℕ, [], ◌∷◌, ◌++◌, Some, refl, sym, ap, ◌∙◌}
 use Rattle.std.specs.Prelude.{All, nat_lt, bit_and}
-use Rattle.std.specs.List.{range_with_len}
-use Rattle.std.proofs.lemmas.Bool.{and_parts, eq-eqb}
-use Rattle.std.proofs.lemmas.Nat.{mod_below}
-use Rattle.std.proofs.lemmas.List.Elements.{All-nil, All-cons, All-append, All-map}
-use Rattle.std.proofs.lemmas.List.FromFn.{get_or-range_with_len, length-range_with_len}
+use Rattle.std.proofs.lemmas.Bool.{eq-eqb}
+use Rattle.std.proofs.lemmas.List.Elements.{All-nil, All-cons, All-append}
 use Rattle.codec_graph.specs.declared.raw.RawNode.{RawNode}
 use Rattle.codec_graph.specs.declared.raw.RawCodec.{RawCodec}
 use Rattle.codec_graph.specs.declared.controls.Control.{Control}
 use Rattle.codec_graph.specs.declared.controls.Control.TheVariants as control
-use Rattle.codec_graph.specs.Widget.{node_at, is_mixer, is_selector, is_pin, is_output_converter, has_power_control, has_input_amplifier, has_output_amplifier, input_amplifier_word, output_amplifier_word, amplifier_offset}
+use Rattle.codec_graph.specs.Widget.{node_at, is_selector, is_pin, is_output_converter, has_power_control, has_input_amplifier}
 use Rattle.codec_graph.specs.Settings.{Entries, has_eapd, detects_presence, sends_unsolicited}
-use Rattle.codec_graph.specs.VerbMeaning.{written, kept_amplifier, verb_writes, node_connections, pin_bits, eapd_bits, unsolicited_bits}
+use Rattle.codec_graph.specs.VerbMeaning.{written, verb_writes, node_connections, pin_bits, eapd_bits, unsolicited_bits}
 use Rattle.verb_codes.specs.declared.verbs.Verb.{Verb}
 use Rattle.verb_codes.specs.declared.verbs.Verb.TheVariants.{SetSelect, SetPower, SetStream, SetPin, SetUnsol, SetEapd, SetFormat, SetDigital}
 use Rattle.stream_format.specs.declared.format.Format.{Format}
@@ -26,10 +23,11 @@ use Rattle.setup_verbs.specs.declared.steps.Step.{Step}
 use Rattle.setup_verbs.specs.declared.steps.Step.TheVariants.{Power, Silence, Release, Route}
 use Rattle.setup_verbs.specs.Roles.{role_of, is_used}
 use Rattle.setup_verbs.specs.Steps.{step_verbs, FitsWidget, FitsVerbs}
-use Rattle.setup_verbs.specs.VerbList.{only_if, command_to, input_setting, pass_input, mute_input, mixer_input, mixer_verbs, has_choice, select_verbs, selector_verbs, output_verbs, enable_verbs, source_verbs_as, pin_control, event_tag, digital_pin_verbs, passed_verbs, passed_verbs_as, setup_verbs_as}
+use Rattle.setup_verbs.specs.VerbList.{only_if, command_to, mixer_verbs, has_choice, select_verbs, selector_verbs, output_verbs, enable_verbs, source_verbs_as, pin_control, event_tag, digital_pin_verbs, passed_verbs, passed_verbs_as, setup_verbs_as}
 use Rattle.setup_verbs.proofs.Settling.{IsWanted}
-use Rattle.setup_verbs.proofs.Wanted.{pin_control_as, digital_wanted, widget_wanted, input_wanted, output_wanted, wanted, wanted-widget, one_wanted, two_wanted, if_wanted, wanted-power, input_writes, output_writes}
+use Rattle.setup_verbs.proofs.Wanted.{pin_control_as, digital_wanted, widget_wanted, wanted, wanted-widget, one_wanted, if_wanted, wanted-power}
 use Rattle.setup_verbs.proofs.Members.{all_if, all_verbs}
+use Rattle.setup_verbs.proofs.Amplified.{outputs_good, InputGood, pass_good, mixers_good}
 
 module _ (kind : PinKind) (codec : RawCodec) (plan : Plan) (format : Format) (tag nid : ℕ) (node : RawNode) (there : node_at codec nid ≡ Some node) where
   -- the verb puts what is wanted
@@ -38,11 +36,6 @@ module _ (kind : PinKind) (codec : RawCodec) (plan : Plan) (format : Format) (ta
 
   one : (role : Role) → role_of plan nid ≡ role → (verb : Verb) (c : Control) (value : ℕ) → ((settings : Entries) → verb_writes codec settings nid verb ≡ written codec nid c value) → value ≡ widget_wanted kind codec plan format tag nid node role c → Good verb
   one role is verb c value writes e = one_wanted (wanted kind codec plan format tag) codec nid verb c value writes (e ∙ sym (wanted-widget kind codec plan format tag nid node role c there is))
-
-  two : (role : Role) → role_of plan nid ≡ role → (verb : Verb) (left right : Control) (value : ℕ) → ((settings : Entries) → verb_writes codec settings nid verb ≡ written codec nid left value ++ written codec nid right value)
-      → value ≡ widget_wanted kind codec plan format tag nid node role left → value ≡ widget_wanted kind codec plan format tag nid node role right → Good verb
-  two role is verb left right value writes e f =
-      two_wanted (wanted kind codec plan format tag) codec nid verb left right value writes (e ∙ sym (wanted-widget kind codec plan format tag nid node role left there is)) (f ∙ sym (wanted-widget kind codec plan format tag nid node role right there is))
 
   power_good : (role : Role) → role_of plan nid ≡ role → All Good (step_verbs kind codec plan format tag Power nid node role)
   power_good role is = all_if Good (is_used role && has_power_control node) (SetPower 0) (λ h. one role is (SetPower 0) control.Power 0 (λ s. refl) refl)
@@ -59,8 +52,7 @@ module _ (kind : PinKind) (codec : RawCodec) (plan : Plan) (format : Format) (ta
 
   output_good : (role : Role) → role_of plan nid ≡ role → All Good (output_verbs codec node)
   output_good role is =
-      all_if Good (has_output_amplifier node) _ (λ h. two role is _ control.OutLeft control.OutRight (output_wanted codec node)
-      (λ s. output_writes codec nid node (amplifier_offset (output_amplifier_word codec node)) there (mod_below _ (2 ^ 7) (lit< tt)) s) refl refl)
+      outputs_good (wanted kind codec plan format tag) codec nid node there (wanted-widget kind codec plan format tag nid node role control.OutLeft there is) (wanted-widget kind codec plan format tag nid node role control.OutRight there is)
 
   enable_good : (k : PinKind) → k ≡ kind → (pair : ℕ) → role_of plan nid ≡ Source pair → All Good (enable_verbs k)
   enable_good Analog same pair is = All-nil Good
@@ -73,34 +65,8 @@ module _ (kind : PinKind) (codec : RawCodec) (plan : Plan) (format : Format) (ta
       (All-cons Good (SetStream (tag * 2 ^ 4 + 2 * pair)) (enable_verbs kind ++ output_verbs codec node) (one (Source pair) is (SetStream (tag * 2 ^ 4 + 2 * pair)) control.Stream (tag * 2 ^ 4 + 2 * pair) (λ s. refl) refl)
       (All-append Good (enable_verbs kind) (output_verbs codec node) (enable_good kind refl pair is) (output_good (Source pair) is)))
 
-  pass_good : (index place : ℕ) → role_of plan nid ≡ Passed index → place < 16 → (place == index) ≡ true → Good (pass_input codec node place)
-  pass_good index place is low e =
-      let passes : kept_amplifier (input_amplifier_word codec node) (input_setting place false (amplifier_offset (input_amplifier_word codec node))) ≡ input_wanted codec node index place = rw e refl in
-      two (Passed index) is _ (control.InLeft place) (control.InRight place) (kept_amplifier (input_amplifier_word codec node) (input_setting place false (amplifier_offset (input_amplifier_word codec node))))
-      (λ s. input_writes codec nid node place (amplifier_offset (input_amplifier_word codec node)) false there low (mod_below _ (2 ^ 7) (lit< tt)) s) passes passes
-
-  mute_good : (index place : ℕ) → role_of plan nid ≡ Passed index → place < 16 → (place == index) ≡ false → Good (mute_input place)
-  mute_good index place is low e =
-      let mutes : kept_amplifier (input_amplifier_word codec node) (input_setting place true 0) ≡ input_wanted codec node index place = rw e refl in
-      two (Passed index) is _ (control.InLeft place) (control.InRight place) (kept_amplifier (input_amplifier_word codec node) (input_setting place true 0))
-      (λ s. input_writes codec nid node place 0 true there low (lit< tt) s) mutes mutes
-
-  input_good : (index place : ℕ) → role_of plan nid ≡ Passed index → place < 16 → Good (mixer_input codec node index place)
-  input_good index place is low = by (place == index) refl
-    where
-      by : (b : Bool) → (place == index) ≡ b → Good (cond b (pass_input codec node place) (mute_input place))
-      by true e = pass_good index place is low e
-      by false e = mute_good index place is low e
-
-  mixer_good : (index : ℕ) → role_of plan nid ≡ Passed index → (is_mixer node ≡ true → length node.list ≤ 16) → All Good (mixer_verbs codec node index)
-  mixer_good index is few = by (is_mixer node && has_input_amplifier node) refl
-    where
-      by : (b : Bool) → (is_mixer node && has_input_amplifier node) ≡ b → All Good (cond b (map (mixer_input codec node index) (range_with_len 0 (length node.list))) [])
-      by true e =
-          All-map Good (mixer_input codec node index) (range_with_len 0 (length node.list))
-          (λ k d within. let low : k < length node.list = subst (λ n. k < n) (length-range_with_len 0 (length node.list)) within in
-          subst (λ place. Good (mixer_input codec node index place)) (sym (get_or-range_with_len 0 (length node.list) k d low ∙ zero-add k)) (input_good index k is (omega (arith, few (and_parts _ _ e).0))))
-      by false e = All-nil Good
+  input_good : (index place : ℕ) → role_of plan nid ≡ Passed index → InputGood (wanted kind codec plan format tag) codec nid node there index place
+  input_good index place is = (wanted-widget kind codec plan format tag nid node (Passed index) (control.InLeft place) there is, wanted-widget kind codec plan format tag nid node (Passed index) (control.InRight place) there is)
 
   select_good : (index : ℕ) → role_of plan nid ≡ Passed index → All Good (select_verbs node index)
   select_good index is =
@@ -112,9 +78,9 @@ module _ (kind : PinKind) (codec : RawCodec) (plan : Plan) (format : Format) (ta
 
   analog_good : kind ≡ Analog → (index : ℕ) → role_of plan nid ≡ Passed index → FitsWidget plan node (Passed index) → All Good (passed_verbs codec plan nid node index)
   analog_good same index is fits =
-      All-append Good (mixer_verbs codec node index) _ (mixer_good index is fits.inputs)
+      All-append Good (mixer_verbs codec node index) _ (mixers_good (wanted kind codec plan format tag) codec nid node there index (λ place. input_good index place is) fits.inputs)
       (All-append Good (select_verbs node index) _ (select_good index is)
-      (All-append Good (selector_verbs codec node index) _ (all_if Good (is_selector node && has_input_amplifier node) _ (λ h. pass_good index index is (fits.argument h) (eq-eqb index index refl)))
+      (All-append Good (selector_verbs codec node index) _ (all_if Good (is_selector node && has_input_amplifier node) _ (λ h. pass_good (wanted kind codec plan format tag) codec nid node there index index (input_good index index is) (fits.argument h) (eq-eqb index index refl)))
       (All-append Good (output_verbs codec node) _ (output_good (Passed index) is)
       (All-append Good (only_if (has_eapd node) (SetEapd 0x02)) _ (eapd_good index is)
       (All-append Good (only_if (detects_presence node && sends_unsolicited node) (SetUnsol (0x80 + event_tag plan nid))) _ (all_if Good (detects_presence node && sends_unsolicited node) _ (λ h. one (Passed index) is (SetUnsol (0x80 + event_tag plan nid)) control.Unsol (bit_and (0x80 + event_tag plan nid) unsolicited_bits) (λ s. refl) refl))

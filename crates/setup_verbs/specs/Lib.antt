@@ -1,5 +1,5 @@
 pub mod Roles
 pub mod VerbList
 pub mod SetUp
--- what private functions promise one another
+-- what the functions of the steps promise one another
 pub mod Steps

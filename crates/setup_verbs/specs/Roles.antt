@@ -1,5 +1,6 @@
 -- What the routes of a plan make of each node. This project's own.
-use Rattle.std.specs.Prelude.{ℕ, Bool, true, false, ◌==◌, ◌+◌, List, [], ◌∷◌, ◌++◌, map, if◌then◌else◌}
+use Rattle.std.specs.Prelude.{ℕ, Bool, true, false, ◌==◌, ◌+◌, List, [], ◌∷◌, ◌++◌, map, slice_index_or}
+use Rattle.std.specs.Prelude.{if◌then◌else◌}
 use Rattle.std.specs.List.{flat_map}
 use Rattle.route_planner.specs.declared.routes.Hop.{Hop}
 use Rattle.route_planner.specs.declared.routes.Outcome.{Outcome}
@@ -17,9 +18,13 @@ Uses = List (ℕ × Role)
 abbrev pub hop_uses : List Hop → Uses
 hop_uses hops = map (λ (hop : Hop). (hop.nid, Passed hop.index)) hops
 
--- and has its pair of channels from its converter
+-- and has its sound from the node at its source
+abbrev pub route_uses : List Hop → (source pair : ℕ) → Uses
+route_uses hops source pair = hop_uses hops ++ (source, Source pair) ∷ []
+
+-- on the way out its pair of channels from its converter
 abbrev pub outcome_uses : ℕ → Outcome → Uses
-outcome_uses pair (outcome.Route route) = hop_uses route.hops ++ (route.converter, Source pair) ∷ []
+outcome_uses pair (outcome.Route route) = route_uses route.hops route.converter pair
 outcome_uses pair outcome.Blocked = []
 outcome_uses pair outcome.NoPath = []
 
@@ -40,6 +45,10 @@ first_role (Source pair) other = Source pair
 abbrev pub role_among : Uses → ℕ → Role
 role_among [] nid = Unused
 role_among (used ∷ uses) nid = first_role (if used.0 == nid then used.1 else Unused) (role_among uses nid)
+
+-- the role at a node's place of a table
+abbrev pub role_in : List Role → ℕ → Role
+role_in roles nid = slice_index_or roles nid Unused
 
 -- what the routes of a plan make of a node: in the plan of a well-formed graph all routes that have it make the same of
 -- it

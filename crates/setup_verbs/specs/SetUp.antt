@@ -80,7 +80,8 @@ IsRouteHeard kind codec settings format tag pin pair outcome.NoPath = Unit {0}
 
 -- every route's pin hears its pair as a pin of the kind, and every other pin widget is silent, of whichever kind it is
 -- heard as
-pub record AreRoutesHeard (kind : PinKind) (codec : RawCodec) (settings : Entries) (plan : Plan) (format : Format) (tag : ℕ)
+pub record AreRoutesHeard (kind : PinKind) (codec : RawCodec) (settings : Entries) (plan : Plan) (format : Format)
+    (tag : ℕ)
     : Type 0 where
   pub routes : All (λ (entry : PinPlan). IsRouteHeard kind codec settings format tag entry.pin entry.pair entry.outcome)
       plan.pins

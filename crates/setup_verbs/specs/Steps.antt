@@ -1,6 +1,6 @@
 -- The four steps by name, tables of roles, and what the plan of a well-formed graph keeps within the widths of verbs.
 -- This project's own.
-use Rattle.std.specs.Prelude.{◌≡◌, ◌≤◌, ◌<◌, ℕ, true, ◌&&◌, List, length, Some, slice_index_or}
+use Rattle.std.specs.Prelude.{◌≡◌, ◌≤◌, ◌<◌, ℕ, true, ◌&&◌, List, length, Some}
 use Rattle.codec_graph.specs.declared.raw.RawNode.{RawNode}
 use Rattle.codec_graph.specs.declared.raw.RawCodec.{RawCodec}
 use Rattle.codec_graph.specs.Widget.{node_at, is_mixer, is_selector, has_input_amplifier}
@@ -13,18 +13,22 @@ use Rattle.setup_verbs.specs.declared.roles.Role.{Role}
 use Rattle.setup_verbs.specs.declared.roles.Role.TheVariants.{Unused, Passed, Source}
 use Rattle.setup_verbs.specs.declared.steps.Step.{Step}
 use Rattle.setup_verbs.specs.declared.steps.Step.TheVariants.{Power, Silence, Release, Route}
-use Rattle.setup_verbs.specs.Roles.{role_of}
-use Rattle.setup_verbs.specs.VerbList.{power_verbs, silence_verbs, release_verbs, route_verbs, step, step_at}
-
--- the role at a node's place of a table
-abbrev pub role_in : List Role → ℕ → Role
-role_in roles nid = slice_index_or roles nid Unused
+use Rattle.setup_verbs.specs.Roles.{role_in, role_of}
+use Rattle.setup_verbs.specs.VerbList.{power_verbs, silence_verbs, release_verbs, route_verbs, step, step_at, in_steps}
 
 -- the table says what the routes make of each node
 abbrev pub AreRoles : Plan → List Role → Type 0
 AreRoles plan roles = (nid : ℕ) → nid < 256 → role_in roles nid ≡ role_of plan nid
 
--- the verbs of a step at a node
+-- the verbs of each step at a node
+abbrev pub StepVerbs : Type 0
+StepVerbs = Step → ℕ → RawNode → Role → List Verb
+
+-- all four of them
+abbrev pub all_steps : RawCodec → (roles : ℕ → Role) → StepVerbs → List Command
+all_steps codec roles verbs = in_steps codec roles (verbs Power) (verbs Silence) (verbs Release) (verbs Route)
+
+-- those of set-up
 abbrev pub step_verbs : PinKind → RawCodec → Plan → Format → ℕ → Step → ℕ → RawNode → Role → List Verb
 step_verbs kind codec plan format tag Power nid node role = power_verbs node role
 step_verbs kind codec plan format tag Silence nid node role = silence_verbs node role

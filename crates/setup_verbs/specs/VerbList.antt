@@ -36,7 +36,7 @@ only_if applies verb = if applies then verb ∷ [] else []
 abbrev pub power_verbs : RawNode → Role → List Verb
 power_verbs node role = only_if (is_used role && has_power_control node) (SetPower 0)
 
--- a pin without a route drives nothing (7.3.3.13)
+-- a pin without a route drives nothing, and takes nothing in (7.3.3.13)
 abbrev pub silence_verbs : RawNode → Role → List Verb
 silence_verbs node role = only_if (not (is_used role) && is_pin node) (SetPin 0)
 
@@ -178,20 +178,35 @@ abbrev pub at_widget : (RawNode → Role → List Verb) → Option RawNode → R
 at_widget verbs None role = []
 at_widget verbs (Some node) role = verbs node role
 
+-- where `roles` says what the routes make of each node
+abbrev pub step_at_by : RawCodec → (roles : ℕ → Role) → (ℕ → RawNode → Role → List Verb) → ℕ → List Command
+step_at_by codec roles verbs nid = commands_to codec nid (at_widget (verbs nid) (node_at codec nid) (roles nid))
+
+abbrev pub step_by : RawCodec → (roles : ℕ → Role) → (ℕ → RawNode → Role → List Verb) → List Command
+step_by codec roles verbs = to_all (step_at_by codec roles verbs)
+
+-- the function group is put into the power state 0, and then four steps follow
+abbrev pub in_steps : RawCodec → (roles : ℕ → Role) → (power silence release route : ℕ → RawNode → Role → List Verb)
+    → List Command
+in_steps codec roles power silence release route =
+    command_to codec codec.group (SetPower 0)
+    ∷ (step_by codec roles power
+    ++ (step_by codec roles silence
+    ++ (step_by codec roles release
+    ++ step_by codec roles route)))
+
+-- so for the roles of a plan
 abbrev pub step_at : RawCodec → Plan → (ℕ → RawNode → Role → List Verb) → ℕ → List Command
-step_at codec plan verbs nid = commands_to codec nid (at_widget (verbs nid) (node_at codec nid) (role_of plan nid))
+step_at codec plan = step_at_by codec (role_of plan)
 
 abbrev pub step : RawCodec → Plan → (ℕ → RawNode → Role → List Verb) → List Command
-step codec plan verbs = to_all (step_at codec plan verbs)
+step codec plan = step_by codec (role_of plan)
 
 -- all set-up verbs for a kind of pins
 unfoldable pub setup_verbs_as : PinKind → RawCodec → Plan → Format → ℕ → List Command
 setup_verbs_as kind codec plan format tag =
-    command_to codec codec.group (SetPower 0)
-    ∷ (step codec plan (λ _. power_verbs)
-    ++ (step codec plan (λ _. silence_verbs)
-    ++ (step codec plan (λ _. release_verbs)
-    ++ step codec plan (route_verbs kind codec plan format tag))))
+    in_steps codec (role_of plan) (λ _. power_verbs) (λ _. silence_verbs) (λ _. release_verbs)
+    (route_verbs kind codec plan format tag)
 
 -- for analog pins
 abbrev pub setup_verbs : RawCodec → Plan → Format → ℕ → List Command

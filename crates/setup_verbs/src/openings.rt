@@ -178,8 +178,12 @@ fn open_choice(
     send_if(commands, codec, nid, selects, Verb::SetSelect(index))
 }
 
-/// Of a mixer's inputs the one at the index passes, and all others are muted.
-fn open_mixer(
+/// Of a mixer's inputs the one at the index passes at 0 dB, and all others are muted, where they have amplifiers (HDA
+/// 1.0a, 7.3.3.7). This project's own.
+///
+/// # Errors
+/// Want of memory.
+pub fn open_mixer(
     commands: &mut Vec<Command>,
     codec: &RawCodec,
     nid: u8,
@@ -248,8 +252,11 @@ fn open_selector(
     Ok(())
 }
 
-/// The output passes at 0 dB.
-fn open_output(
+/// The output passes at 0 dB, where it has an amplifier (HDA 1.0a, 7.3.3.7). This project's own.
+///
+/// # Errors
+/// Want of memory.
+pub fn open_output(
     commands: &mut Vec<Command>,
     codec: &RawCodec,
     nid: u8,

@@ -1,24 +1,24 @@
 //! What the routes of a plan make of each node.
 ghost use Rattle.std.specs.Prelude.{◌≡◌, ◌<◌, ◌==◌, ℕ, if◌then◌else◌};
 ghost use Rattle.setup_verbs.specs.Roles as spec;
-ghost use Rattle.setup_verbs.specs.Steps.{role_in};
+ghost use Rattle.setup_verbs.specs.Roles.{role_in};
 
 use route_planner::{Hop, Outcome, PinPlan};
 
 /// What the routes make of a node.
 #[derive(Clone, Copy, Debug, PartialEq, Eq)]
-pub(crate) enum Role {
+pub enum Role {
     /// No route has it.
     Unused,
     /// Routes leave it, all by the connection at this index.
     Passed(u8),
-    /// Routes end in it, all with this pair of channels.
+    /// Routes have their sound from it, all with this pair of channels.
     Source(u8),
 }
 
 impl Role {
     /// Whether some route has the node.
-    pub(crate) fn is_used(self) -> bool
+    pub fn is_used(self) -> bool
         ensures { result ≡ spec.is_used self }
     {
         match self {
@@ -56,9 +56,19 @@ fn add_entry(roles: &mut [Role; 256], entry: &PinPlan)
         (spec.role_among (spec.entry_uses entry.now) nid) }
 {
     if let Outcome::Route(route) = &entry.outcome {
-        add_hops(roles, route.hops.as_slice());
-        add_role(roles, route.converter, Role::Source(entry.pair));
+        add_route(roles, route.hops.as_slice(), route.converter, entry.pair);
     }
+}
+
+/// Gives the nodes of a route that have no role yet theirs: each hop leaves its node, and the route has its sound from
+/// the node at its source, with the pair of channels. This project's own.
+pub fn add_route(roles: &mut [Role; 256], hops: &[Hop], source: u8, pair: u8)
+    ensures { (nid : ℕ) → nid < 256
+        → role_in roles.new nid ≡ spec.first_role (role_in roles.old nid)
+        (spec.role_among (spec.route_uses hops.now source pair) nid) }
+{
+    add_hops(roles, hops);
+    add_role(roles, source, Role::Source(pair));
 }
 
 /// Gives the node that each hop leaves its role.

@@ -8,11 +8,11 @@ use codec_graph::RawCodec;
 use std::alloc::AllocError;
 use verb_codes::{AmpSetting, Command, Verb};
 
-/// Puts the command with this verb at the codec's node last, where it applies.
+/// Puts the command with this verb at the codec's node last, where it applies. This project's own.
 ///
 /// # Errors
 /// Want of memory.
-pub(crate) fn send_if(
+pub fn send_if(
     commands: &mut Vec<Command>,
     codec: &RawCodec,
     nid: u8,
@@ -40,8 +40,9 @@ fn neutral_gain(word: u32) -> u8
     codec_graph::amplifier_offset(word) as u8
 }
 
-/// Passes the input at this place at the 0 dB step of an amplifier with these capabilities.
-pub(crate) fn pass_input(word: u32, place: u8) -> Verb
+/// Passes the input at this place, 0 to 15, at the 0 dB step of an amplifier with these capabilities (HDA 1.0a,
+/// 7.3.3.7).
+pub fn pass_input(word: u32, place: u8) -> Verb
     requires { place < 16 }
     ensures { result ≡ Verb.SetAmp
         (amplifiers.setting_payload (spec.input_setting place false (amplifier_offset word))) }

@@ -14,14 +14,14 @@ use std::alloc::AllocError;
 use stream_format::Format;
 use verb_codes::{Command, Verb};
 
-/// A step of set-up.
+/// A step of set-up. This project's own.
 #[derive(Clone, Copy, Debug, PartialEq, Eq)]
-pub(crate) enum Step {
+pub enum Step {
     /// The nodes of routes are powered.
     Power,
-    /// Pins without a route are silenced.
+    /// Pins off the routes are silenced.
     Silence,
-    /// Converters on no route are released from their streams.
+    /// Converters off the routes are released from their streams.
     Release,
     /// The nodes of routes are opened.
     Route,
@@ -102,20 +102,50 @@ fn send_to_widget(
         (spec.step_verbs kind codec.now plan.now format tag step nid node.now role)) }
 {
     match step {
-        Step::Power => {
-            let applies = role.is_used() && node.has_power_control();
-            send_if(commands, codec, nid, applies, Verb::SetPower(0))
-        }
-        Step::Silence => {
-            let applies = !role.is_used() && node.is_pin();
-            send_if(commands, codec, nid, applies, Verb::SetPin(0))
-        }
+        Step::Power => power_node(commands, codec, nid, node, role),
+        Step::Silence => silence_pin(commands, codec, nid, node, role),
         Step::Release => {
             let applies = !role.is_used() && node.is_output_converter();
             send_if(commands, codec, nid, applies, Verb::SetStream(0))
         }
         Step::Route => send_route(commands, kind, codec, plan, format, tag, nid, node, role),
     }
+}
+
+/// A node of a route is put into the power state 0, fully on (HDA 1.0a, 7.3.3.10). This project's own.
+///
+/// # Errors
+/// Want of memory.
+pub fn power_node(
+    commands: &mut Vec<Command>,
+    codec: &RawCodec,
+    nid: u8,
+    node: &RawNode,
+    role: Role,
+) -> Result<(), AllocError>
+    ensures { OnOk result (commands.new.items
+        ≡ commands.old.items ++ list.commands_to codec.now nid (list.power_verbs node.now role)) }
+{
+    let applies = role.is_used() && node.has_power_control();
+    send_if(commands, codec, nid, applies, Verb::SetPower(0))
+}
+
+/// A pin off the routes neither drives anything nor takes anything in (HDA 1.0a, 7.3.3.13). This project's own.
+///
+/// # Errors
+/// Want of memory.
+pub fn silence_pin(
+    commands: &mut Vec<Command>,
+    codec: &RawCodec,
+    nid: u8,
+    node: &RawNode,
+    role: Role,
+) -> Result<(), AllocError>
+    ensures { OnOk result (commands.new.items
+        ≡ commands.old.items ++ list.commands_to codec.now nid (list.silence_verbs node.now role)) }
+{
+    let applies = !role.is_used() && node.is_pin();
+    send_if(commands, codec, nid, applies, Verb::SetPin(0))
 }
 
 /// The verbs of a node by what the routes make of it.

@@ -54,6 +54,7 @@ impl Cases for Calls {
             "alike" => wide_walks::tell(alloc, rest),
             "setup" => setups::tell(alloc, rest),
             "setter" => setups::tell_setter(alloc, rest),
+            "input_setter" => setups::tell_input(alloc, rest),
             "hear" => signals::tell(alloc, rest),
             "kept" => signals::tell_kept(alloc, rest),
             "digital_plan" => digital_pins::tell_plan(alloc, rest),

@@ -1,12 +1,13 @@
 //! The verbs that set codecs up.
 use crate::formats::format_of;
+use analog_in::Input;
 use codec_graph::Graph;
 use route_planner::plan;
 use route_setup::{Analog, Setter, verbs};
 use std::alloc::{AllocError, Global};
 use std::fmt::Write;
 use stream_format::Format;
-use test_cases::push_hex;
+use test_cases::{number_of, push_hex};
 use test_codecs::codec_of;
 use verb_codes::{Command, encode};
 
@@ -53,9 +54,26 @@ pub fn tell_setter(alloc: Global, words: &[Vec<u8>]) -> Result<String, AllocErro
         return format!(in alloc; "refused");
     };
     let format = format_of(rate, channels, bits);
-    let commands = commands_by(alloc, &Analog, &codec.graph, format)?;
+    told(alloc, &commands_by(alloc, &Analog, &codec.graph, format)?)
+}
+
+/// The same for the input of the codec at an address.
+pub fn tell_input(alloc: Global, words: &[Vec<u8>]) -> Result<String, AllocError> {
+    let [file, address, rate, channels, bits] = words else {
+        return format!(in alloc; "no codec");
+    };
+    let Some(codec) = codec_of(alloc, file) else {
+        return format!(in alloc; "refused");
+    };
+    let format = format_of(rate, channels, bits);
+    let input = Input::new(u8::try_from(number_of(address)).unwrap_or(0));
+    told(alloc, &commands_by(alloc, &input, &codec.graph, format)?)
+}
+
+/// A line for each command: the node and the verb.
+fn told(alloc: Global, commands: &[Command]) -> Result<String, AllocError> {
     let mut text = String::new(alloc);
-    for command in &commands {
+    for command in commands {
         write!(text, "\n  {:02x} {:?}", command.nid, command.verb)?;
     }
     Ok(text)

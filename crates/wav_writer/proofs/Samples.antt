@@ -78,6 +78,6 @@ even B24 channels long pairs whole =
     let half : channels ≡ 2 * (channels / 2) = omega (arith, pairs) in
     let turned : channels * 4 * (long / (channels * 4)) ≡ 4 * (channels * (long / (channels * 4))) = omega arith in
     let split : channels * (long / (channels * 4)) ≡ 2 * (channels / 2 * (long / (channels * 4))) =
-        ap (λ (n : ℕ). n * (long / (channels * 4))) half ∙ omega arith in
+    ap (λ (n : ℕ). n * (long / (channels * 4))) half ∙ omega arith in
     omega (arith, all, turned, split)
 even B32 channels long pairs whole = omega arith

@@ -1,6 +1,6 @@
-use Rattle.setup_verbs.proofs.RoleLists.{route_more}
+use Rattle.setup_verbs.proofs.RoleLists.{outcome_more}
 use Rattle.setup_verbs.proofs.roles.add_entry.Goals as goal
 
 pub returns-in-Route : goal.returns-in-Route
 returns-in-Route c = λ nid below.
-    route_more _ _ _ c.args.entry.now.pair nid c.args.entry.now.outcome c.in-Route.route.hops c.as_slice.result.now c.in-Route.route.converter c.in-Route.is c.as_slice.ensures (c.add_hops.ensures nid below) (c.add_role.ensures nid below)
+    outcome_more _ _ c.args.entry.now.pair nid c.args.entry.now.outcome c.in-Route.route.hops c.as_slice.result.now c.in-Route.route.converter c.in-Route.is c.as_slice.ensures (c.add_route.ensures nid below)

@@ -1,7 +1,7 @@
 use Rattle.std.proofs.Common.{rules, ◌∙◌, sym, ap}
 use Rattle.route_planner.specs.declared.routes.Hop.{Hop}
 use Rattle.setup_verbs.specs.Roles.{first_role}
-use Rattle.setup_verbs.specs.Steps.{role_in}
+use Rattle.setup_verbs.specs.Roles.{role_in}
 use Rattle.setup_verbs.proofs.RoleLists.{hops_more, add_more}
 use Rattle.setup_verbs.proofs.roles.add_hops.Goals as goal
 

@@ -1,6 +1,6 @@
 use Rattle.std.proofs.Common.{◌≡◌, ◌<◌, ℕ, take, length}
 use Rattle.setup_verbs.specs.Roles.{role_among, hop_uses, first_role}
-use Rattle.setup_verbs.specs.Steps.{role_in}
+use Rattle.setup_verbs.specs.Roles.{role_in}
 use Rattle.setup_verbs.proofs.roles.add_hops.Given as goal
 
 abbrev pub invariant-loop-hop : goal.invariant-loop-hop

@@ -1,4 +1,5 @@
 use Rattle.std.proofs.Common.{rules, refl}
+use Rattle.setup_verbs.specs.Roles.{entry_uses}
 use Rattle.setup_verbs.proofs.RoleLists.{entry_more, unused_at}
 use Rattle.setup_verbs.proofs.roles.roles_of.Goals as goal
 
@@ -8,5 +9,5 @@ loop-entry-init c = record { whole = refl; added = λ nid below. unused_at 256 n
 pub loop-entry-preserved : goal.loop-entry-preserved
 loop-entry-preserved c = record {
   whole = search rules;
-  added = λ nid below. entry_more c.args.pins.now c.loop-entry.entry-index c.entry-item.result nid _ _ c.loop-entry-test.true c.entry-item.is (c.loop-entry.invariant.added nid below) (c.add_entry.ensures nid below);
+  added = λ nid below. entry_more entry_uses c.args.pins.now c.loop-entry.entry-index c.entry-item.result nid _ _ c.loop-entry-test.true c.entry-item.is (c.loop-entry.invariant.added nid below) (c.add_entry.ensures nid below);
 }

@@ -1,6 +1,6 @@
 use Rattle.std.proofs.Common.{◌≡◌, ◌<◌, ℕ, take, length}
 use Rattle.setup_verbs.specs.Roles.{role_among, uses_of}
-use Rattle.setup_verbs.specs.Steps.{role_in}
+use Rattle.setup_verbs.specs.Roles.{role_in}
 use Rattle.setup_verbs.proofs.roles.roles_of.Given as goal
 
 abbrev pub invariant-loop-entry : goal.invariant-loop-entry

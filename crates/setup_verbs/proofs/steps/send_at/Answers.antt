@@ -1,5 +1,6 @@
 use Rattle.std.proofs.Common.{◌<◌, ◌∙◌, sym, ap, subst, arith}
-use Rattle.setup_verbs.specs.Steps.{role_in, FitsWidget}
+use Rattle.setup_verbs.specs.Roles.{role_in}
+use Rattle.setup_verbs.specs.Steps.{FitsWidget}
 use Rattle.setup_verbs.proofs.steps.send_at.Goals as goal
 
 pub send_to_widget-requires-clause-fits : goal.send_to_widget-requires-clause-fits
