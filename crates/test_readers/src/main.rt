@@ -1,5 +1,5 @@
-//! Cases of the readers, also of dumps of Linux, of the planner and of what these stand on, from the files in `data`, each
-//! with what comes of it. A case is a line, whose first word says what is called.
+//! Cases of the readers, also of dumps of Linux, of the planner and of what these stand on, from the files in `data`,
+//! each with what comes of it. A case is a line, whose first word says what is called.
 #![tactic(auto)]
 
 mod codec_files;

@@ -17,8 +17,8 @@ pub fn written_sound_is_read()
     ensures { IsHeardAgain }
 {}
 
-/// Whole blocks of a ring of any format that are written as a WAV file in the plain form are read as these blocks, where
-/// the lowest byte of each container of 24 bits is 0.
+/// Whole blocks of a ring of any format that are written as a WAV file in the plain form are read as these blocks,
+/// where the lowest byte of each container of 24 bits is 0.
 pub fn written_blocks_are_read()
     ensures { AreBlocksReadBack }
 {}
