@@ -1,5 +1,5 @@
 -- What a batch of RIRB's engine leaves.
-use Rattle.std.proofs.Common.{◌≡◌, ◌<◌, ◌≤◌, ◌⊎◌, ◌+◌, ◌*◌, ◌%◌, ◌||◌, ℕ, suc, Bool, true, false, min, nat_le, List, [], ◌∷◌, length, take, slice_index, slice_get, Some, refl, sym, ap, subst, ◌∙◌, inl, inr, arith, rules, tests, lit<, length-append, if◌then◌else◌}
+use Rattle.std.proofs.Common.{◌≡◌, ◌<◌, ◌≤◌, ◌⊎◌, ◌+◌, ◌*◌, ◌%◌, ◌||◌, ℕ, Bool, true, false, min, nat_le, List, [], ◌∷◌, length, take, slice_index, slice_get, Some, refl, sym, ap, subst, ◌∙◌, inl, inr, arith, rules, tests, lit<, if◌then◌else◌}
 use Rattle.std.proofs.Math.Nat.{mod-lt, mod-add-mod, mod-eq_of_lt}
 use Rattle.std.proofs.lemmas.List.{length-take}
 use Rattle.hda_registers.specs.declared.shapes.RingSize.{RingSize}
@@ -12,6 +12,7 @@ use Rattle.world_rings.specs.Entries.{response_bytes, response_place, response_s
 use Rattle.world_rings.specs.Engines.{can_respond, batch_of, batch}
 use Rattle.world_rings.specs.Standing.{StandsAt, IsRirbInside}
 use Rattle.world_rings.proofs.Callers.{stored_outside, length-response_bytes}
+use Rattle.hda_world.proofs.Callers.{same_word}
 use Rattle.command_engine.specs.Blocks.{are_apart}
 use Rattle.command_engine.specs.Sizes.{half_of}
 use Rattle.command_engine.specs.Fetchings.{part_of, AreStanding}
@@ -83,21 +84,21 @@ size_stored (response ∷ responses) fields memory =
     size_stored responses (after_response fields) (response_stored fields memory response)
     ∙ (stored_outside (rirb_address fields + 8 * response_place fields) (response_bytes response) memory).0
 
--- a word is the same where its four bytes are
-pub same_word : (old new : List ℕ) (at : ℕ) → ((byte : ℕ) → byte < 4 → slice_index new (at + byte) ≡ slice_index old (at + byte)) → word_at new at ≡ word_at old at
-same_word old new at same =
-    let e0 : slice_index new at ≡ slice_index old at = subst (λ (n : ℕ). slice_index new n ≡ slice_index old n) (omega arith) (same 0 (lit< tt)) in
-    let e1 : slice_index new (suc at) ≡ slice_index old (suc at) = subst (λ (n : ℕ). slice_index new n ≡ slice_index old n) (omega arith) (same 1 (lit< tt)) in
-    let e2 : slice_index new (suc (suc at)) ≡ slice_index old (suc (suc at)) = subst (λ (n : ℕ). slice_index new n ≡ slice_index old n) (omega arith) (same 2 (lit< tt)) in
-    let e3 : slice_index new (suc (suc (suc at))) ≡ slice_index old (suc (suc (suc at))) = subst (λ (n : ℕ). slice_index new n ≡ slice_index old n) (omega arith) (same 3 (lit< tt)) in
-    cc
-
 apart_by : (corb rirb at entries : ℕ) → are_apart corb rirb ≡ true → corb ≤ at → at < corb + 1024 → entries ≤ 256 → (at < rirb) ⊎ (rirb + 8 * entries ≤ at)
 apart_by corb rirb at entries apart from to few = by (nat_le (corb + 1024) rirb) refl apart
   where
     by : (b : Bool) → nat_le (corb + 1024) rirb ≡ b → (b || nat_le (rirb + 2048) corb) ≡ true → (at < rirb) ⊎ (rirb + 8 * entries ≤ at)
     by true is e = let below : corb + 1024 ≤ rirb = search (rules, tests) in inl (omega arith)
     by false is e = let above : rirb + 2048 ≤ corb = search (rules, tests) in inr (omega arith)
+
+-- outside RIRB's block
+pub outside_block : (responses : List Response) (fields : Fields) (memory : List ℕ) (rirb : ℕ) → rirb_address fields ≡ rirb → (at : ℕ) → IsOutside rirb 2048 at
+    → slice_index (responses_stored fields memory responses) at ≡ slice_index memory at
+outside_block responses fields memory rirb base at outside = outside_stored responses fields memory at (by outside)
+  where
+    by : IsOutside rirb 2048 at → OutsideRirb fields at
+    by (inl below) = inl (omega (arith, below, base))
+    by (inr above) = let few = few_entries fields.shape.rirb in inr (omega (arith, above, base, few))
 
 -- so a command of CORB stays
 pub word_stays : (responses : List Response) (fields : Fields) (memory : List ℕ) (corb place : ℕ) → are_apart corb (rirb_address fields) ≡ true → place < 256

@@ -1,23 +1,27 @@
 -- What happens beside the engine leaves how it stands.
-use Rattle.std.proofs.Common.{◌≡◌, ◌≢◌, ◌<◌, ◌≤◌, ◌+◌, ◌*◌, ◌%◌, ◌==◌, ℕ, Bool, true, false, List, [], ◌∷◌, length, drop, refl, sym, ap, subst, ◌∙◌, inl, inr, arith, rules, tests}
-use Rattle.std.proofs.Math.Nat.{mod-lt}
+use Rattle.std.proofs.Common.{◌≡◌, ◌≢◌, ◌==◌, ℕ, Bool, true, false, List, [], ◌∷◌, refl, sym, ap, subst, ◌∙◌, arith, rules, tests}
+use Rattle.std.specs.Prelude.{All}
+use Rattle.std.proofs.lemmas.List.Elements.{All-head, All-tail}
 use Rattle.hda_registers.specs.declared.shapes.Width.{Width}
 use Rattle.hda_registers.specs.declared.shapes.Shape.{Shape}
 use Rattle.hda_registers.specs.declared.shapes.RingSize.{RingSize}
 use Rattle.hda_registers.specs.declared.shapes.RingSize.TheVariants.{Two, Sixteen, Full}
-use Rattle.hda_registers.specs.Fields.{Fields, entries_of, is_out_of_reset}
+use Rattle.hda_registers.specs.Fields.{Fields, is_out_of_reset, is_running}
 use Rattle.hda_registers.specs.Access.{written}
 use Rattle.hda_registers.specs.Laws.{IsBesideRings, IsHeldInReset}
-use Rattle.hda_registers.proofs.Callers.{leaves-rings, keeps-shape, stays-held, some_entries, few_entries}
-use Rattle.world_rings.specs.Memory.{word_at, stored, IsOutside}
-use Rattle.world_rings.proofs.Callers.{stored_outside}
-use Rattle.hda_world.specs.Worlds.{World}
-use Rattle.hda_world.specs.Events.{Event, Stepped, Begin, End, Read, Write, DmaRead, DmaWrite, after_write, happens, after}
-use Rattle.hda_world.proofs.Callers.{beside_write}
+use Rattle.hda_registers.proofs.Callers.{leaves-rings, keeps-shape, stays-held}
+use Rattle.world_streams.specs.Streams.{Stream}
+use Rattle.hda_world.specs.Worlds.{World, input_of}
+use Rattle.hda_world.specs.Events.{Event, Stepped, Begin, End, Read, Write, DmaRead, DmaWrite, registers_written, after_write, happens, after}
+use Rattle.hda_world.proofs.Callers.{beside_write, steps_leave, input_stays}
 use Rattle.command_engine.specs.declared.ring_places.RingPlaces.{RingPlaces}
 use Rattle.command_engine.specs.Sizes.{half_of}
-use Rattle.command_engine.specs.Fetchings.{RingPart, part_of, HasRings, IsBeside, IsBesideBlock, AreBeside, IsFetching, StandsBy, Stands}
-use Rattle.command_engine.proofs.Batches.{EachStands, same_word}
+use Rattle.command_engine.specs.Apart.{InputIsApart, StaysApart, LeavesInput, IsBesideBoth}
+use Rattle.command_engine.specs.Quiet.{LeavesRegisters, LeaveRegisters}
+use Rattle.command_engine.specs.Fetchings.{RingPart, part_of, HasRings, IsBeside, AreBeside, StandsBy, Stands}
+use Rattle.command_engine.proofs.Batches.{EachStands}
+use Rattle.command_engine.proofs.Apart.{with_apart, write_apart, stopped_apart}
+use Rattle.command_engine.proofs.Pieces.{piece_beside}
 use Rattle.command_engine.proofs.Keeping.{steps_keep_standing}
 
 some_half : (size : RingSize) → half_of size ≢ 0
@@ -58,57 +62,86 @@ module _ (from read corb rirb : ℕ) (rings : RingPlaces) where
       same_part _ _ _ _ _ _ _ _ _ _ _ _ _ _ _ _ _ _ _ _ (is_one _ out ∙ sym (is_one _ has.out)) (ap (λ (s : Shape). s.corb) shape) leaves.corb_base leaves.corb_write_pointer leaves.corb_read_pointer
       (ap (λ (s : Shape). s.rirb) shape) leaves.rirb_base leaves.rirb_write_pointer leaves.response_count leaves.response_flag
 
-  write_beside : (world : World) (at value : ℕ) (width : Width) → IsBesideRings at → Stands from read corb rirb rings world → Stands from read corb rirb rings (after_write at width value world)
-  write_beside world at value width beside holds =
-      subst (λ (w : World). Stands from read corb rirb rings w) (sym (beside_write world at value width beside))
-      (subst (λ (part : RingPart). StandsBy from read corb rirb rings part world.memory world.codecs world.waiting world.commands world.written) (sym (part_beside world.registers at value width beside holds.has_rings)) holds)
+  write_beside : (world : World) (at value : ℕ) (width : Width) → IsBesideRings at → InputIsApart corb rirb (after_write at width value world) → Stands from read corb rirb rings world → Stands from read corb rirb rings (after_write at width value world)
+  write_beside world at value width beside apart holds =
+      let same = beside_write world at value width beside in
+      subst (λ (w : World). Stands from read corb rirb rings w) (sym same)
+      (with_apart from read corb rirb rings (part_of (written world.registers at width value)) world.memory world.codecs world.waiting world.commands world.written (input_of world) (input_of (registers_written (written world.registers at width value) world))
+      (subst (InputIsApart corb rirb) same apart)
+      (subst (λ (part : RingPart). StandsBy from read corb rirb rings part world.memory world.codecs world.waiting world.commands world.written (input_of world)) (sym (part_beside world.registers at value width beside holds.has_rings)) holds))
 
-  -- a byte of a block is outside a piece beside the block
-  outside_piece : (block size at bytes here : ℕ) → IsBesideBlock block size at bytes → block ≤ here → here < block + size → IsOutside at bytes here
-  outside_piece block size at bytes here (inl below) above within = inr (omega arith)
-  outside_piece block size at bytes here (inr above) from_here within = inl (omega arith)
+  pub event_keeps : EachStands → (event : Event) (world : World) → IsBeside corb rirb event → StaysApart corb rirb event world → Stands from read corb rirb rings world → Stands from read corb rirb rings (happens world event)
+  event_keeps stands (Stepped step) world beside apart holds = steps_keep_standing from read corb rirb rings stands (step ∷ []) world holds
+  event_keeps stands Begin world beside apart holds = holds
+  event_keeps stands End world beside apart holds = holds
+  event_keeps stands (Read at width value) world beside apart holds = holds
+  event_keeps stands (Write at width value) world beside apart holds = write_beside world at value width beside apart holds
+  event_keeps stands (DmaRead at bytes) world beside apart holds = holds
+  event_keeps stands (DmaWrite at bytes) world beside apart holds = piece_beside from read corb rirb rings world at bytes (input_of world) beside.0 beside.1 apart holds
 
-  fetching_word : (part : RingPart) (word word' : ℕ) (gained : List _) → word' ≡ word → IsFetching rings.outstanding part word gained → IsFetching rings.outstanding part word' gained
-  fetching_word part word word' gained same fetching = subst (λ (w : ℕ). IsFetching rings.outstanding part w gained) (sym same) fetching
-
-  memory_beside : (world : World) (at : ℕ) (bytes : List ℕ) → IsBesideBlock corb 1024 at (length bytes) → IsBesideBlock rirb 2048 at (length bytes) → Stands from read corb rirb rings world
-      → StandsBy from read corb rirb rings (part_of world.registers) (stored world.memory at bytes) world.codecs world.waiting world.commands world.written
-  memory_beside world at bytes beside_corb beside_rirb holds =
-      let both = stored_outside at bytes world.memory in
-      let has = holds.has_rings in
-      let submitted = has.submitted_within in
-      let corb_few = few_entries rings.corb in
-      let rirb_few = few_entries rings.rirb in
-      let blocks = holds.blocks in
-      let same : word_at (stored world.memory at bytes) (corb + 4 * rings.submitted) ≡ word_at world.memory (corb + 4 * rings.submitted) =
-      same_word world.memory (stored world.memory at bytes) (corb + 4 * rings.submitted) (λ byte small. both.1 (corb + 4 * rings.submitted + byte) (outside_piece corb 1024 at (length bytes) (corb + 4 * rings.submitted + byte) beside_corb (omega arith) (omega arith))) in
-      record {
-        has_rings = has;
-        blocks = record { corb_inside = subst (λ (n : ℕ). corb + 1024 ≤ n) (sym both.0) blocks.corb_inside; rirb_inside = subst (λ (n : ℕ). rirb + 2048 ≤ n) (sym both.0) blocks.rirb_inside; apart = blocks.apart };
-        ascend = holds.ascend;
-        reading = holds.reading;
-        flag = holds.flag;
-        few = holds.few;
-        pointer = holds.pointer;
-        standing = λ index response byte is small.
-            let place : (rings.read + (index + 1)) % entries_of rings.rirb < entries_of rings.rirb = mod-lt _ (some_entries rings.rirb) in
-            both.1 (rirb + 8 * ((rings.read + (index + 1)) % entries_of rings.rirb) + byte) (outside_piece rirb 2048 at (length bytes) (rirb + 8 * ((rings.read + (index + 1)) % entries_of rings.rirb) + byte) beside_rirb (omega arith) (omega arith))
-            ∙ holds.standing index response byte is small;
-        from_within = holds.from_within;
-        fetching = fetching_word (part_of world.registers) _ _ (drop from world.commands) same holds.fetching;
-        taken_by = holds.taken_by;
-        on_its_way = holds.on_its_way;
-      }
-
-  pub event_keeps : EachStands → (event : Event) (world : World) → IsBeside corb rirb event → Stands from read corb rirb rings world → Stands from read corb rirb rings (happens world event)
-  event_keeps stands (Stepped step) world beside holds = steps_keep_standing from read corb rirb rings stands (step ∷ []) world holds
-  event_keeps stands Begin world beside holds = holds
-  event_keeps stands End world beside holds = holds
-  event_keeps stands (Read at width value) world beside holds = holds
-  event_keeps stands (Write at width value) world beside holds = write_beside world at value width beside holds
-  event_keeps stands (DmaRead at bytes) world beside holds = holds
-  event_keeps stands (DmaWrite at bytes) world beside holds = memory_beside world at bytes beside.0 beside.1 holds
-
-  pub events_keep : EachStands → (events : List Event) (world : World) → AreBeside corb rirb events → Stands from read corb rirb rings world → Stands from read corb rirb rings (after events world)
+  pub events_keep : EachStands → (events : List Event) (world : World) → AreBeside corb rirb events world → Stands from read corb rirb rings world → Stands from read corb rirb rings (after events world)
   events_keep stands [] world beside holds = holds
-  events_keep stands (event ∷ events) world beside holds = events_keep stands events (happens world event) beside.1 (event_keeps stands event world beside.0 holds)
+  events_keep stands (event ∷ events) world beside holds = events_keep stands events (happens world event) beside.2 (event_keeps stands event world beside.0 beside.1 holds)
+
+  -- an event that leaves memory and the input stream keeps it
+  pub event_beside_input_keeps : EachStands → (event : Event) (world : World) → IsBesideBoth event → Stands from read corb rirb rings world → Stands from read corb rirb rings (happens world event)
+  event_beside_input_keeps stands (Stepped step) world beside holds = steps_keep_standing from read corb rirb rings stands (step ∷ []) world holds
+  event_beside_input_keeps stands Begin world beside holds = holds
+  event_beside_input_keeps stands End world beside holds = holds
+  event_beside_input_keeps stands (Read at width value) world beside holds = holds
+  event_beside_input_keeps stands (Write at width value) world beside holds = write_beside world at value width beside.0 (write_apart corb rirb world at value width beside.1.control beside.1.descriptor holds.apart) holds
+  event_beside_input_keeps stands (DmaRead at bytes) world beside holds = holds
+  event_beside_input_keeps stands (DmaWrite at bytes) world beside holds = absurd beside
+
+  pub events_beside_input_keep : EachStands → (events : List Event) (world : World) → All IsBesideBoth events → Stands from read corb rirb rings world → Stands from read corb rirb rings (after events world)
+  events_beside_input_keep stands [] world beside holds = holds
+  events_beside_input_keep stands (event ∷ events) world beside holds =
+      events_beside_input_keep stands events (happens world event) (All-tail IsBesideBoth event events beside) (event_beside_input_keeps stands event world (All-head IsBesideBoth event events beside) holds)
+
+-- ---- an input stream that does not run
+
+-- it stays so
+stopped_after : (event : Event) (world : World) → LeavesInput event → is_running world.registers.input ≡ false → is_running (happens world event).registers.input ≡ false
+stopped_after (Stepped step) world leaves stopped =
+    let stay = steps_leave (step ∷ []) world in
+    ap is_running (stay.registers.input.still stopped) ∙ stopped
+stopped_after Begin world leaves stopped = stopped
+stopped_after End world leaves stopped = stopped
+stopped_after (Read at width value) world leaves stopped = stopped
+stopped_after (Write at width value) world leaves stopped =
+    ap (λ (stream : Stream). is_running stream.descriptor) (input_stays world at value width leaves.control leaves.descriptor) ∙ stopped
+stopped_after (DmaRead at bytes) world leaves stopped = stopped
+stopped_after (DmaWrite at bytes) world leaves stopped = stopped
+
+pub stopped_events : (events : List Event) (world : World) → All LeavesInput events → is_running world.registers.input ≡ false → is_running (after events world).registers.input ≡ false
+stopped_events [] world leave stopped = stopped
+stopped_events (event ∷ events) world leave stopped =
+    stopped_events events (happens world event) (All-tail LeavesInput event events leave) (stopped_after event world (All-head LeavesInput event events leave) stopped)
+
+-- and so it is apart after each event
+stays_apart : (corb rirb : ℕ) (event : Event) (world : World) → is_running (happens world event).registers.input ≡ false → StaysApart corb rirb event world
+stays_apart corb rirb (Stepped step) world stopped = tt {0}
+stays_apart corb rirb Begin world stopped = tt {0}
+stays_apart corb rirb End world stopped = tt {0}
+stays_apart corb rirb (Read at width value) world stopped = tt {0}
+stays_apart corb rirb (Write at width value) world stopped = stopped_apart corb rirb _ (input_of (after_write at width value world)) stopped
+stays_apart corb rirb (DmaRead at bytes) world stopped = tt {0}
+stays_apart corb rirb (DmaWrite at bytes) world stopped = stopped_apart corb rirb _ (input_of world) stopped
+
+pub stopped_beside : (corb rirb : ℕ) (events : List Event) (world : World) → All (IsBeside corb rirb) events → All LeavesInput events → is_running world.registers.input ≡ false → AreBeside corb rirb events world
+stopped_beside corb rirb [] world beside leave stopped = tt {0}
+stopped_beside corb rirb (event ∷ events) world beside leave stopped =
+    let still = stopped_after event world (All-head LeavesInput event events leave) stopped in (
+      All-head (IsBeside corb rirb) event events beside,
+      stays_apart corb rirb event world still,
+      stopped_beside corb rirb events (happens world event) (All-tail (IsBeside corb rirb) event events beside) (All-tail LeavesInput event events leave) still,
+    )
+
+pub stopped_leave : (corb rirb : ℕ) (events : List Event) (world : World) → All LeavesRegisters events → All LeavesInput events → is_running world.registers.input ≡ false → LeaveRegisters corb rirb events world
+stopped_leave corb rirb [] world registers leave stopped = tt {0}
+stopped_leave corb rirb (event ∷ events) world registers leave stopped =
+    let still = stopped_after event world (All-head LeavesInput event events leave) stopped in (
+      All-head LeavesRegisters event events registers,
+      stays_apart corb rirb event world still,
+      stopped_leave corb rirb events (happens world event) (All-tail LeavesRegisters event events registers) (All-tail LeavesInput event events leave) still,
+    )

@@ -14,6 +14,19 @@ pub use Rattle.command_engine.proofs.Holding.{Holding, keeps_holding}
 pub use Rattle.command_engine.proofs.Beside.{event_keeps}
 -- and so do events in a row
 pub use Rattle.command_engine.proofs.Beside.{events_keep}
+-- one that leaves memory and the input stream keeps it whether that stream runs or not
+pub use Rattle.command_engine.proofs.Beside.{event_beside_input_keeps}
+-- and so do several
+pub use Rattle.command_engine.proofs.Beside.{events_beside_input_keep}
+-- an input stream that does not run stays so, and apart
+pub use Rattle.command_engine.proofs.Beside.{stopped_events, stopped_beside}
+pub use Rattle.command_engine.proofs.Apart.{stopped_apart}
+-- a write of a register beside GCTL and the input's descriptor leaves it apart
+pub use Rattle.command_engine.proofs.Apart.{write_apart}
+-- and so do a write of its status, and one after which it does not run
+pub use Rattle.command_engine.proofs.Apart.{status_apart, stopped_write}
+-- and each move of it
+pub use Rattle.command_engine.proofs.Apart.{apart_moves}
 -- a start brings it about
 pub use Rattle.command_engine.proofs.StartTellings.{start_leaves}
 -- while the world is quiet, events that touch neither GCTL nor the rings' registers leave it so

@@ -12,7 +12,7 @@ use Rattle.world_rings.specs.Entries.{response_source, response_bytes}
 use Rattle.hda_world.specs.Events.{IsPiece}
 use Rattle.command_engine.specs.Entries.{response_in}
 use Rattle.command_engine.specs.Belonging.{as_held}
-use Rattle.command_engine.proofs.Batches.{same_word}
+use Rattle.hda_world.proofs.Callers.{same_word}
 
 piece_byte : (memory entry : List ℕ) (at byte : ℕ) → byte < length entry → IsPiece memory at entry → slice_index entry byte ≡ slice_index memory (at + byte)
 piece_byte memory entry at byte small piece =

@@ -10,29 +10,35 @@ use Rattle.codec_graph.specs.declared.waiting.Waiting.{Waiting}
 use Rattle.codec_graph.specs.CodecStates.{CodecState, taken, plugged, without_first, without_answer}
 use Rattle.hda_registers.specs.declared.shapes.RingSize.{RingSize}
 use Rattle.hda_registers.specs.declared.shapes.Raise.TheVariants as event
-use Rattle.hda_registers.specs.Fields.{Fields, entries_of, rirb_address, is_running}
+use Rattle.hda_registers.specs.Fields.{Fields, Descriptor, entries_of, rirb_address, list_address, is_running}
 use Rattle.hda_registers.specs.Moves.{framed, raised}
 use Rattle.world_rings.specs.declared.response.Response.{Response}
 use Rattle.world_rings.specs.Memory.{word_at}
 use Rattle.world_rings.specs.Entries.{next_place, next_command, after_responses, responses_stored}
 use Rattle.world_rings.specs.Engines.{can_fetch, can_respond, batch}
+use Rattle.world_streams.specs.Streams.{Stream, broke}
+use Rattle.world_streams.specs.Input.{holds_byte, byte_place, oldest_byte, byte_stored, frame_took}
 use Rattle.world_steps.specs.declared.Step.{Step}
 use Rattle.hda_registers.proofs.Callers.{some_entries, few_entries}
 use Rattle.codec_graph.proofs.Callers.{graph-plugged}
-use Rattle.world_rings.proofs.Callers.{flag_clear, batch_first}
+use Rattle.world_rings.proofs.Callers.{flag_clear, batch_first, responses_registers}
 use Rattle.hda_world.specs.declared.step.TheConstants.{FRAMES_TO_DISCOVERY}
-use Rattle.hda_world.specs.Worlds.{World, TakenCommand, codec_at, with_codec}
+use Rattle.hda_world.specs.Worlds.{World, TakenCommand, codec_at, with_codec, input_of}
+use Rattle.hda_world.specs.Arriving.{arriving}
 use Rattle.hda_world.specs.Steps.{address_of, taking, waiting_of, handed, responses_of, responded, discovered, passed, after_steps}
-use Rattle.hda_world.specs.Kept.{Kept}
+use Rattle.hda_world.specs.Kept.{Kept, KeptByInput, CanTake, goes_well, byte_went}
 use Rattle.hda_world.specs.Unread.{IsReadTo}
 use Rattle.hda_world.proofs.Callers.{graphs-with_codec, keeps_reading, frames_after, kept_steps, absent}
 use Rattle.command_engine.specs.declared.ring_places.RingPlaces.{RingPlaces}
 use Rattle.command_engine.specs.declared.answers.Outstanding.{Outstanding}
 use Rattle.command_engine.specs.Blocks.{are_apart}
+use Rattle.command_engine.specs.Apart.{IsApartBy}
 use Rattle.command_engine.specs.Fetchings.{RingPart, part_of, HasRings, AscendFrom, AscendByAddress, AreOf, IsWordOf, IsOfCodec, AreOfCodecs, graphs_in, IsFetching, IsOnItsWay, AreStanding, StandsBy, Stands}
 use Rattle.command_engine.proofs.Codecs.{graph_there}
 use Rattle.command_engine.proofs.Coming.{coming_taken, coming_sent, coming_lost, coming_plugged, coming_responded}
-use Rattle.command_engine.proofs.Batches.{EachStands, half_small, part_after, pointer_after, batch_short, size_stored, word_stays, standing_written}
+use Rattle.command_engine.proofs.Batches.{EachStands, half_small, part_after, pointer_after, batch_short, size_stored, outside_block, word_stays, standing_written}
+use Rattle.command_engine.proofs.Apart.{rirb_written, apart_moves, byte_beside, with_apart}
+use Rattle.command_engine.proofs.Pieces.{piece_beside}
 
 -- ---- codecs stay by address
 
@@ -135,12 +141,13 @@ module _ (from read corb rirb : ℕ) (rings : RingPlaces) where
             fetching = inl (record { pointers = next.pointers; taken = both.0 });
             taken_by = taken_with (address_of word) (λ codec. taken codec word) (λ codec. refl) world.codecs (drop from (world.commands ++ taking word (codec_at (address_of word) world.codecs) (is_running world.registers.output) (length world.carried))) both.2;
             on_its_way = both.1;
+            apart = holds.apart;
           }
 
   -- ---- what waits at codecs
 
   sends : (world : World) (address : ℕ) (item : Waiting) (rest : List Waiting) → Stands from read corb rirb rings world → waiting_of (codec_at address world.codecs) ≡ item ∷ rest
-      → StandsBy from read corb rirb rings (part_of world.registers) world.memory (with_codec address without_first world.codecs) (world.waiting ++ responses_of world.registers address item) world.commands world.written
+      → StandsBy from read corb rirb rings (part_of world.registers) world.memory (with_codec address without_first world.codecs) (world.waiting ++ responses_of world.registers address item) world.commands world.written (input_of world)
   sends world address item rest holds are = record {
     has_rings = holds.has_rings;
     blocks = holds.blocks;
@@ -154,10 +161,11 @@ module _ (from read corb rirb : ℕ) (rings : RingPlaces) where
     fetching = holds.fetching;
     taken_by = taken_with address without_first (λ codec. refl) world.codecs (drop from world.commands) holds.taken_by;
     on_its_way = coming_sent (drop from world.commands) world.registers address item rest (drop read world.written) world.waiting world.codecs holds.ascend are holds.on_its_way;
+    apart = holds.apart;
   }
 
   loses : (world : World) (address : ℕ) → Stands from read corb rirb rings world
-      → StandsBy from read corb rirb rings (part_of world.registers) world.memory (with_codec address without_answer world.codecs) world.waiting world.commands world.written
+      → StandsBy from read corb rirb rings (part_of world.registers) world.memory (with_codec address without_answer world.codecs) world.waiting world.commands world.written (input_of world)
   loses world address holds = record {
     has_rings = holds.has_rings;
     blocks = holds.blocks;
@@ -171,10 +179,11 @@ module _ (from read corb rirb : ℕ) (rings : RingPlaces) where
     fetching = holds.fetching;
     taken_by = taken_with address without_answer (λ codec. refl) world.codecs (drop from world.commands) holds.taken_by;
     on_its_way = coming_lost (drop from world.commands) address (drop read world.written) world.waiting world.codecs holds.ascend holds.on_its_way;
+    apart = holds.apart;
   }
 
   plugs : (world : World) (address nid : ℕ) (present : Bool) → Stands from read corb rirb rings world
-      → StandsBy from read corb rirb rings (part_of world.registers) world.memory (with_codec address (λ codec. plugged codec nid present) world.codecs) world.waiting world.commands world.written
+      → StandsBy from read corb rirb rings (part_of world.registers) world.memory (with_codec address (λ codec. plugged codec nid present) world.codecs) world.waiting world.commands world.written (input_of world)
   plugs world address nid present holds = record {
     has_rings = holds.has_rings;
     blocks = holds.blocks;
@@ -188,6 +197,7 @@ module _ (from read corb rirb : ℕ) (rings : RingPlaces) where
     fetching = holds.fetching;
     taken_by = taken_with address (λ codec. plugged codec nid present) (graph-plugged nid present) world.codecs (drop from world.commands) holds.taken_by;
     on_its_way = coming_plugged (drop from world.commands) address nid present (drop read world.written) world.waiting world.codecs holds.ascend holds.on_its_way;
+    apart = holds.apart;
   }
 
   -- ---- RIRB's engine writes a batch
@@ -202,7 +212,7 @@ module _ (from read corb rirb : ℕ) (rings : RingPlaces) where
       → IsReadTo read (length (world.written ++ responses)) 1 (entries_of world.registers.shape.rirb)
       → StandsBy from read corb rirb rings
       (record (part_of world.registers) { rirb_write_pointer = (world.registers.global.rirb_write_pointer + length responses) % entries_of world.registers.shape.rirb; response_flag = 1 })
-      (responses_stored world.registers world.memory responses) world.codecs (drop (length responses) world.waiting) world.commands (world.written ++ responses)
+      (responses_stored world.registers world.memory responses) world.codecs (drop (length responses) world.waiting) world.commands (world.written ++ responses) (input_of world)
   wrote stands world responses holds can are reading =
       let fields = world.registers in
       let has = holds.has_rings in
@@ -243,6 +253,7 @@ module _ (from read corb rirb : ℕ) (rings : RingPlaces) where
             (word_stays responses fields world.memory corb rings.submitted apart (omega arith)) holds.fetching;
         taken_by = holds.taken_by;
         on_its_way = subst (λ (unread : List Response). IsOnItsWay (drop from world.commands) unread (drop (length responses) world.waiting) world.codecs) (ap (λ (first : List Response). first ++ responses) none ∙ sym unread) way;
+        apart = rirb_written corb rirb world.memory (responses_stored fields world.memory responses) (input_of world) (outside_block responses fields world.memory rirb base) holds.apart;
       }
 
   responds : EachStands → (world : World) (response : Response) (rest : List Response) → Stands from read corb rirb rings world → can_respond world.registers ≡ true
@@ -258,15 +269,40 @@ module _ (from read corb rirb : ℕ) (rings : RingPlaces) where
       ∙ ap (λ (pointer : ℕ). record (part_of fields) { rirb_write_pointer = pointer; response_flag = 1 }) (pointer_after (response ∷ rest) fields inside) in
       let reading = (keeps_reading read).responds world response rest holds.reading can are in
       let shape : (after_responses fields (response ∷ rest)).shape.rirb ≡ fields.shape.rirb = ap (λ (part : RingPart). part.rirb_size) (part_after (response ∷ rest) fields) in
-      subst (λ (part : RingPart). StandsBy from read corb rirb rings part (responses_stored fields world.memory (response ∷ rest)) world.codecs (drop (length (response ∷ rest)) world.waiting) world.commands (world.written ++ response ∷ rest)) (sym part)
-      (wrote stands world (response ∷ rest) holds can are (subst (λ (s : RingSize). IsReadTo read (length (world.written ++ response ∷ rest)) 1 (entries_of s)) shape reading))
+      let input : (after_responses fields (response ∷ rest)).input ≡ fields.input = ap (λ (f : Fields). f.input) (responses_registers (response ∷ rest) fields) in
+      subst (λ (descriptor : Descriptor). StandsBy from read corb rirb rings (part_of (raised (after_responses fields (response ∷ rest)) event.Response)) (responses_stored fields world.memory (response ∷ rest)) world.codecs (drop (length (response ∷ rest)) world.waiting) world.commands
+      (world.written ++ response ∷ rest) (record { descriptor = descriptor; state = world.input })) (sym input)
+      (subst (λ (part : RingPart). StandsBy from read corb rirb rings part (responses_stored fields world.memory (response ∷ rest)) world.codecs (drop (length (response ∷ rest)) world.waiting) world.commands (world.written ++ response ∷ rest) (input_of world)) (sym part)
+      (wrote stands world (response ∷ rest) holds can are (subst (λ (s : RingSize). IsReadTo read (length (world.written ++ response ∷ rest)) 1 (entries_of s)) shape reading)))
 
   -- ---- a link frame passes
 
   passes : (world : World) → Stands from read corb rirb rings world → Stands from read corb rirb rings (passed world)
   passes world holds =
       let same = part-passed world in
-      subst (λ (part : RingPart). StandsBy from read corb rirb rings part world.memory world.codecs world.waiting world.commands world.written) (sym same) holds
+      subst (λ (part : RingPart). StandsBy from read corb rirb rings part world.memory world.codecs world.waiting world.commands world.written (input_of world)) (sym same) holds
+
+  -- ---- the input stream moves
+
+  -- a byte that is stored lies beside both blocks
+  stores : (world : World) → Stands from read corb rirb rings world → CanTake world → holds_byte world.input ≡ true → goes_well world ≡ true → Stands from read corb rirb rings (byte_went world)
+  stores world holds can some good =
+      let is = holds.apart can.runs in
+      piece_beside from read corb rirb rings world (byte_place world.memory (list_address world.registers.input) world.input) (oldest_byte world.input ∷ []) (byte_stored world.memory (input_of world))
+      (byte_beside corb 1024 world.memory (input_of world) is.list good is.beside_corb) (byte_beside rirb 2048 world.memory (input_of world) is.list good is.beside_rirb)
+      ((apart_moves corb rirb).stores world holds.apart can some good) holds
+
+  moves : (world : World) (input : Stream) → Stands from read corb rirb rings world → IsApartBy corb rirb world.memory input
+      → StandsBy from read corb rirb rings (part_of world.registers) world.memory world.codecs world.waiting world.commands world.written input
+  moves world input holds apart = with_apart from read corb rirb rings (part_of world.registers) world.memory world.codecs world.waiting world.commands world.written (input_of world) input apart holds
+
+  input_moves : KeptByInput (Stands from read corb rirb rings)
+  input_moves = record {
+    stores = stores;
+    jams = λ world holds can some bad. moves world (broke (input_of world)) holds ((apart_moves corb rirb).jams world holds.apart can some bad);
+    takes = λ world holds can. moves world (frame_took world.registers.shape.fifo (arriving world) (input_of world)) holds ((apart_moves corb rirb).takes world holds.apart can);
+    refuses = λ world holds must. moves world (broke (input_of world)) holds ((apart_moves corb rirb).refuses world holds.apart must);
+  }
 
   -- every move keeps how the engine stands
   pub keeps_standing : EachStands → Kept (Stands from read corb rirb rings)
@@ -284,6 +320,7 @@ module _ (from read corb rirb : ℕ) (rings : RingPlaces) where
       breaks = λ world holds can room bad. holds;
       refuses = λ world holds must. holds;
     };
+    input = input_moves;
     passes = λ world holds out still. passes world holds;
     frames = frames_after (Stands from read corb rirb rings) (λ world holds out. passes world holds) (record {
       gaps = λ world holds can none. holds;

@@ -5,6 +5,8 @@ pub mod Starts
 pub mod Codecs
 pub mod Coming
 pub mod Batches
+pub mod Apart
+pub mod Pieces
 pub mod Keeping
 pub mod Beside
 pub mod Holding

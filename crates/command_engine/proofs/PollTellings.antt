@@ -1,5 +1,5 @@
 -- What a poll leaves of what is told.
-use Rattle.std.proofs.Common.{◌≡◌, ◌<◌, ◌≤◌, ◌+◌, ◌-◌, ◌*◌, ◌%◌, ◌==◌, ◌≢◌, ℕ, zero, suc, Bool, true, false, List, [], ◌∷◌, length, map, drop, slice_get, slice_index, Some, refl, sym, ap, subst, ◌∙◌, arith, rules, tests, if◌then◌else◌}
+use Rattle.std.proofs.Common.{◌≡◌, ◌<◌, ◌≤◌, ◌+◌, ◌-◌, ◌*◌, ◌%◌, ◌==◌, ◌≢◌, ℕ, zero, suc, Bool, true, false, List, [], ◌∷◌, length, map, drop, slice_get, slice_index, Some, refl, sym, ap, subst, ◌∙◌, inl, lit<, arith, rules, tests, if◌then◌else◌}
 use Rattle.std.specs.Prelude.{All}
 use Rattle.std.proofs.Math.Nat.{mod-lt, mod-eq_of_lt}
 use Rattle.std.proofs.lemmas.List.{drop_all, length-drop}
@@ -14,7 +14,7 @@ use Rattle.world_rings.specs.declared.entries.TheConstants.{RESPONSE_BYTES}
 use Rattle.world_rings.specs.Entries.{response_bytes}
 use Rattle.world_rings.proofs.Callers.{flag_clear}
 use Rattle.world_streams.specs.Streams.{StreamState, settled_state}
-use Rattle.hda_world.specs.Worlds.{World}
+use Rattle.hda_world.specs.Worlds.{World, input_of}
 use Rattle.hda_world.specs.Events as happens
 use Rattle.hda_world.specs.Tellings.{Telling, world_of, MakesBy, Makes}
 use Rattle.hda_world.specs.Kept.{Kept}
@@ -22,9 +22,11 @@ use Rattle.hda_world.proofs.Callers.{accessed_then, plain_write}
 use Rattle.command_engine.specs.declared.ring_places.RingPlaces.{RingPlaces}
 use Rattle.command_engine.specs.Entries.{response_in, responses_in, answer_among}
 use Rattle.command_engine.specs.Polling.{PollReads, entry_reads, batch_accesses, poll_accesses, new_entries, asked_of, found_by, read_to, still_outstanding, AreNew}
+use Rattle.command_engine.specs.Apart.{IsApartBy, InputIsApart}
 use Rattle.command_engine.specs.Fetchings.{RingPart, part_of, ResponseCanCome, StandsBy, Stands}
 use Rattle.command_engine.specs.Belonging.{as_held, from_after, PollLeaves}
 use Rattle.command_engine.proofs.Batches.{EachStands, half_small}
+use Rattle.command_engine.proofs.Apart.{with_apart, write_apart}
 use Rattle.command_engine.proofs.Keeping.{keeps_standing}
 use Rattle.command_engine.proofs.Holding.{Holding, keeps_holding}
 use Rattle.command_engine.proofs.EntryReads.{entry_says, new_is}
@@ -53,7 +55,7 @@ module _ (from read corb rirb : ℕ) (rings : RingPlaces) (stands : EachStands) 
   Waits all = Holding from read corb rirb rings stands (IsSet all)
 
   waits_kept : (all : List Response) → Kept (Waits all)
-  waits_kept all = keeps_holding from read corb rirb rings stands (IsSet all) (λ world response rest holds can are. absurd (clash world.registers.global.response_flag holds.1.0 (flag_clear world.registers can)))
+  waits_kept all = keeps_holding from read corb rirb rings stands (IsSet all) (λ world response rest holds can are. absurd (clash world.registers.global.response_flag holds.1.0 (flag_clear world.registers can))) (λ world at byte holds corb_beside rirb_beside. holds.1)
 
   -- ---- the entries
 
@@ -87,16 +89,18 @@ module _ (from read corb rirb : ℕ) (rings : RingPlaces) (stands : EachStands) 
   finish : (world : World) (reads : PollReads) (place : ℕ) → Stands from read corb rirb rings world → place < entries_of rings.rirb → world.registers.global.rirb_write_pointer ≡ place
       → read_to rings reads ≡ place → responses_in reads.entries ≡ map as_held (drop read world.written)
       → (part : RingPart) → part ≡ record (part_of world.registers) { response_flag = 0 }
-      → (registers : Fields) (input output : StreamState) (came : List Bool) → part_of registers ≡ part
+      → (registers : Fields) (input output : StreamState) (came : List Bool) → part_of registers ≡ part → IsApartBy corb rirb world.memory (record { descriptor = registers.input; state = input })
       → PollLeaves from read corb rirb rings reads (record world { registers = registers; input = input; output = output; came = came })
-  finish world reads place holds below at there says part cleared registers input output came is =
+  finish world reads place holds below at there says part cleared registers input output came is apart =
       let found = found_by rings reads in
       let both = after_poll from read corb rirb rings world holds place below at found (ap (answer_among (asked_of rings.outstanding)) says) in
       record {
         responses = says;
         belongs = both.0;
-        stands = subst (λ (place : ℕ). StandsBy (from_after found from world.commands) (length world.written) corb rirb (record rings { read = place; outstanding = still_outstanding rings.outstanding found }) (part_of registers) world.memory world.codecs world.waiting world.commands world.written) (sym there)
-            (subst (λ (part : RingPart). StandsBy (from_after found from world.commands) (length world.written) corb rirb (record rings { read = place; outstanding = still_outstanding rings.outstanding found }) part world.memory world.codecs world.waiting world.commands world.written) (sym (is ∙ cleared)) both.1);
+        stands = with_apart (from_after found from world.commands) (length world.written) corb rirb (record rings { read = read_to rings reads; outstanding = still_outstanding rings.outstanding found }) (part_of registers)
+            world.memory world.codecs world.waiting world.commands world.written (input_of world) (record { descriptor = registers.input; state = input }) apart
+            (subst (λ (place : ℕ). StandsBy (from_after found from world.commands) (length world.written) corb rirb (record rings { read = place; outstanding = still_outstanding rings.outstanding found }) (part_of registers) world.memory world.codecs world.waiting world.commands world.written (input_of world)) (sym there)
+            (subst (λ (part : RingPart). StandsBy (from_after found from world.commands) (length world.written) corb rirb (record rings { read = place; outstanding = still_outstanding rings.outstanding found }) part world.memory world.codecs world.waiting world.commands world.written (input_of world)) (sym (is ∙ cleared)) both.1));
       }
 
   flag_one : (flag : ℕ) → flag ≤ 1 → has_bit flag 0 ≡ true → flag ≡ 1
@@ -122,7 +126,7 @@ module _ (from read corb rirb : ℕ) (rings : RingPlaces) (stands : EachStands) 
       let at : world.registers.global.rirb_write_pointer ≡ rings.read = holds.pointer ∙ ap (λ (n : ℕ). (rings.read + n) % entries_of rings.rirb) behind ∙ ap (λ (n : ℕ). n % entries_of rings.rirb) stays ∙ mod-eq_of_lt below in
       let unread : drop read world.written ≡ [] = drop_all read world.written (omega arith) in
       finish world reads rings.read holds below at (ap (λ (b : Bool). if b then reads.pointer % entries_of rings.rirb else rings.read) clear)
-      (ap responses_in (none_read reads.entries none) ∙ ap (map as_held) (sym unread)) (part_of world.registers) (ap (λ (flag : ℕ). record (part_of world.registers) { response_flag = flag }) zero_flag) world.registers world.input world.output world.came refl
+      (ap responses_in (none_read reads.entries none) ∙ ap (map as_held) (sym unread)) (part_of world.registers) (ap (λ (flag : ℕ). record (part_of world.registers) { response_flag = flag }) zero_flag) world.registers world.input world.output world.came refl holds.apart
 
   -- where the write pointer stands of all that was written
   abbrev stood : List Response → ℕ
@@ -141,10 +145,11 @@ module _ (from read corb rirb : ℕ) (rings : RingPlaces) (stands : EachStands) 
       let said : responses_in reads.entries ≡ map as_held (drop read world.written) = says ∙ ap (λ (written : List Response). map as_held (drop read written)) (sym holds.1.1) in
       let new = written world.registers 0x5D One 1 in
       let part : part_of new ≡ record (part_of world.registers) { response_flag = 0 } = ap part_of (write-response_flag world.registers has.out holds.1.0) in
-      subst (λ (w : World). PollLeaves from read corb rirb rings reads w) (sym (plain_write world 0x5D 1 One (keeps-reset world.registers 0x5D One 1 (omega arith)) (keeps-left world.registers 0x5D One 1 (omega arith))))
+      let plain = plain_write world 0x5D 1 One (keeps-reset world.registers 0x5D One 1 (omega arith)) (keeps-left world.registers 0x5D One 1 (omega arith)) in
+      subst (λ (w : World). PollLeaves from read corb rirb rings reads w) (sym plain)
       (finish world reads (stood all) holds.0 below (stands_at all world holds) there said (part_of new) part (happens.streams_settled world.registers new)
       (settled_state world.registers.input new.input world.input) (settled_state world.registers.output new.output world.output)
-      (happens.settled_came world.registers.input new.input world.came) refl)
+      (happens.settled_came world.registers.input new.input world.came) refl (subst (InputIsApart corb rirb) plain (write_apart corb rirb world 0x5D 1 One (omega arith) (inl (lit< tt)) holds.0.apart)))
 
   batch_poll : (reads : PollReads) (middle new : Telling) → Stands from read corb rirb rings (world_of middle) → reads.flag ≡ (world_of middle).registers.global.response_flag → has_bit reads.flag 0 ≡ true
       → length reads.entries ≡ new_entries rings reads.pointer → All (λ (entry : List ℕ). length entry ≡ 8) reads.entries

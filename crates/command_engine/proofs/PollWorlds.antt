@@ -17,7 +17,7 @@ use Rattle.hda_registers.specs.Access.{written, placed, global_written}
 use Rattle.hda_registers.proofs.Callers.{some_entries}
 use Rattle.world_rings.specs.declared.response.Response.{Response}
 use Rattle.world_rings.specs.Memory.{word_at}
-use Rattle.hda_world.specs.Worlds.{World, TakenCommand}
+use Rattle.hda_world.specs.Worlds.{World, TakenCommand, input_of}
 use Rattle.hda_world.specs.Steps.{address_of}
 use Rattle.hda_world.specs.Events as happens
 use Rattle.hda_world.specs.Tellings.{Telling, MakesBy}
@@ -132,7 +132,7 @@ module _ (from read corb rirb : ℕ) (rings : RingPlaces) (world : World) (holds
       → IsFetching outstanding cleared_part (word_at world.memory (corb + 4 * rings.submitted)) (drop from' world.commands)
       → AreOfCodecs world.codecs (drop from' world.commands)
       → IsOnItsWay (drop from' world.commands) [] world.waiting world.codecs
-      → StandsBy from' (length world.written) corb rirb (record rings { read = place; outstanding = outstanding }) cleared_part world.memory world.codecs world.waiting world.commands world.written
+      → StandsBy from' (length world.written) corb rirb (record rings { read = place; outstanding = outstanding }) cleared_part world.memory world.codecs world.waiting world.commands world.written (input_of world)
   cleared_stands from' outstanding within fetching theirs way =
       let some = some_entries world.registers.shape.rirb in
       record {
@@ -151,10 +151,11 @@ module _ (from read corb rirb : ℕ) (rings : RingPlaces) (world : World) (holds
         fetching = fetching;
         taken_by = theirs;
         on_its_way = subst (λ (unread : List Response). IsOnItsWay (drop from' world.commands) unread world.waiting world.codecs) (sym none_unread) way;
+        apart = holds.apart;
       }
 
   -- nothing was found: the command stays outstanding
-  unfound : StandsBy from (length world.written) corb rirb (record rings { read = place; outstanding = rings.outstanding }) cleared_part world.memory world.codecs world.waiting world.commands world.written
+  unfound : StandsBy from (length world.written) corb rirb (record rings { read = place; outstanding = rings.outstanding }) cleared_part world.memory world.codecs world.waiting world.commands world.written (input_of world)
   unfound =
       let way = holds.on_its_way in
       let few = way.few in
@@ -169,14 +170,14 @@ module _ (from read corb rirb : ℕ) (rings : RingPlaces) (world : World) (holds
   -- the answer was found: it is that of the outstanding command, and nothing more comes
   answered : (value address answer : ℕ) → is_from (asked_of rings.outstanding) address ≡ true → CanCome (drop from world.commands) address answer → value ≡ answer % 2 ^ 32 → 1 ≤ solicited (drop read world.written)
       → Belongs from rings.outstanding world.codecs world.commands (Some value)
-      × StandsBy (length world.commands) (length world.written) corb rirb (record rings { read = place; outstanding = None }) cleared_part world.memory world.codecs world.waiting world.commands world.written
+      × StandsBy (length world.commands) (length world.written) corb rirb (record rings { read = place; outstanding = None }) cleared_part world.memory world.codecs world.waiting world.commands world.written (input_of world)
   answered value address answer asks can is some = by (drop from world.commands) refl can holds.fetching
     where
       nothing : drop (length world.commands) world.commands ≡ []
       nothing = drop_all (length world.commands) world.commands (omega arith)
 
       after : (pointers : world.registers.global.corb_read_pointer ≡ world.registers.global.corb_write_pointer) → length (drop from world.commands) ≤ 1
-          → StandsBy (length world.commands) (length world.written) corb rirb (record rings { read = place; outstanding = None }) cleared_part world.memory world.codecs world.waiting world.commands world.written
+          → StandsBy (length world.commands) (length world.written) corb rirb (record rings { read = place; outstanding = None }) cleared_part world.memory world.codecs world.waiting world.commands world.written (input_of world)
       after pointers one =
           let way = holds.on_its_way in
           let few = way.few in
@@ -211,7 +212,7 @@ module _ (from read corb rirb : ℕ) (rings : RingPlaces) (world : World) (holds
       by : (gained : List TakenCommand) → drop from world.commands ≡ gained → CanCome gained address answer
           → IsFetching rings.outstanding (part_of world.registers) (word_at world.memory (corb + 4 * rings.submitted)) (drop from world.commands)
           → Belongs from rings.outstanding world.codecs world.commands (Some value)
-          × StandsBy (length world.commands) (length world.written) corb rirb (record rings { read = place; outstanding = None }) cleared_part world.memory world.codecs world.waiting world.commands world.written
+          × StandsBy (length world.commands) (length world.written) corb rirb (record rings { read = place; outstanding = None }) cleared_part world.memory world.codecs world.waiting world.commands world.written (input_of world)
       by [] gained can fetching = absurd can
       by (taken ∷ more) gained can (inr next) = let z : taken ∷ more ≡ [] = sym gained ∙ next.none in cc
       by (taken ∷ more) gained can (inl all) =
@@ -222,7 +223,7 @@ module _ (from read corb rirb : ℕ) (rings : RingPlaces) (world : World) (holds
   -- whatever was found
   pub after_poll : (found : Option ℕ) → found ≡ answer_among (asked_of rings.outstanding) (map as_held (drop read world.written))
       → Belongs from rings.outstanding world.codecs world.commands found
-      × StandsBy (from_after found from world.commands) (length world.written) corb rirb (record rings { read = place; outstanding = still_outstanding rings.outstanding found }) cleared_part world.memory world.codecs world.waiting world.commands world.written
+      × StandsBy (from_after found from world.commands) (length world.written) corb rirb (record rings { read = place; outstanding = still_outstanding rings.outstanding found }) cleared_part world.memory world.codecs world.waiting world.commands world.written (input_of world)
   after_poll None is = (tt, unfound)
   after_poll (Some value) is =
       let first = found_first (drop from world.commands) (asked_of rings.outstanding) (drop read world.written) value holds.on_its_way.in_ring (sym is) in

@@ -1,5 +1,5 @@
 -- What keeps the world quiet, and what leads to a start.
-use Rattle.std.proofs.Common.{◌≡◌, ◌≢◌, ◌≤◌, ◌<◌, ◌⊎◌, ◌-◌, ◌*◌, ◌/◌, ◌%◌, ◌==◌, ◌||◌, ◌&&◌, not, ℕ, Bool, true, false, List, [], ◌∷◌, length, map, refl, sym, ap, subst, ◌∙◌, inl, inr, arith, rules, tests, lit≤, if◌then◌else◌}
+use Rattle.std.proofs.Common.{◌≡◌, ◌≢◌, ◌≤◌, ◌<◌, ◌⊎◌, ◌-◌, ◌*◌, ◌/◌, ◌%◌, ◌==◌, ◌||◌, ◌&&◌, not, ℕ, Bool, true, false, List, [], ◌∷◌, length, map, refl, sym, ap, ap₂, subst, ◌∙◌, inl, inr, arith, rules, tests, lit<, lit≤, if◌then◌else◌}
 use Rattle.std.specs.Prelude.{All, nat_lt}
 use Rattle.std.proofs.lemmas.List.Elements.{All-cons, All-nil}
 use Rattle.std.proofs.lemmas.List.Sums.{sum_by-cons}
@@ -8,18 +8,22 @@ use Rattle.codec_graph.specs.CodecStates.{CodecState, cleared, answers}
 use Rattle.hda_registers.specs.declared.shapes.Width.{Width}
 use Rattle.hda_registers.specs.declared.shapes.Width.TheVariants.{Four}
 use Rattle.hda_registers.specs.declared.shapes.Shape.{Shape}
-use Rattle.hda_registers.specs.Fields.{Fields, Global, reset_fields, is_out_of_reset}
+use Rattle.hda_registers.specs.Fields.{Fields, Global, Descriptor, reset_fields, is_out_of_reset, is_running}
 use Rattle.hda_registers.specs.Access.{access_of, is_taken, with_global, written, placed, global_written, stream_written, effects_of}
 use Rattle.hda_registers.specs.Laws.{IsBesideRings}
 use Rattle.hda_registers.proofs.Callers.{leaves-rings}
 use Rattle.world_rings.proofs.Callers.{stored_outside}
+use Rattle.world_streams.specs.Streams.{StreamState}
 use Rattle.world_steps.specs.declared.Step.{Step}
-use Rattle.hda_world.specs.Worlds.{World}
+use Rattle.hda_world.specs.Worlds.{World, input_of}
 use Rattle.hda_world.specs.Steps.{after_steps}
 use Rattle.hda_world.specs.Events.{Event, Stepped, Begin, End, Read, Write, DmaRead, DmaWrite, registers_written, after_write, happens, after}
-use Rattle.hda_world.proofs.Callers.{kept_steps, beside_write, reset_write, plain_write, rising_write}
+use Rattle.hda_world.proofs.Callers.{kept_steps, beside_write, reset_write, plain_write, rising_write, write_memory, write_registers, streams_out}
 use Rattle.command_engine.specs.Fetchings.{RingPart, part_of, HasBlocks, AscendFrom, AscendByAddress, CodecCanSend, ItemCanCome, waiting_answers}
+use Rattle.command_engine.specs.Apart.{InputIsApart, StaysApart, LeavesInput}
 use Rattle.command_engine.specs.Quiet.{IsQuiet, CanStart, LeavesRegisters, LeaveRegisters}
+use Rattle.command_engine.proofs.Apart.{stopped_apart, same_apart}
+use Rattle.command_engine.proofs.Beside.{stopped_events, stopped_leave}
 use Rattle.command_engine.proofs.StartTellings.{Runs, IsSet, set_kept, runs_stopped}
 
 -- ---- steps
@@ -36,6 +40,7 @@ quiet_set corb rirb world quiet = record {
   way = quiet.nothing_comes;
   from_is = refl;
   read_is = refl;
+  apart = quiet.apart;
 }
 
 steps_set : (corb rirb : ℕ) (steps : List Step) (world : World) → IsQuiet corb rirb world → set_of corb rirb world (after_steps steps world)
@@ -50,6 +55,7 @@ set_quiet corb rirb old new quiet set = record {
   blocks = set.blocks;
   ascend = set.ascend;
   nothing_comes = set.way;
+  apart = set.apart;
 }
 
 pub quiet_steps : (corb rirb : ℕ) (steps : List Step) (world : World) → IsQuiet corb rirb world → IsQuiet corb rirb (after_steps steps world)
@@ -106,8 +112,9 @@ written-out : (fields : Fields) (at value : ℕ) (width : Width) → at / 4 ≢ 
 unfolding written
 written-out fields at value width apart out = taken-cases (is_taken fields at width) (placed fields at width value) fields (placed-out fields at value width apart out) out
 
-write_quiet : (corb rirb : ℕ) (world : World) (at value : ℕ) (width : Width) → IsBesideRings at → IsQuiet corb rirb world → IsQuiet corb rirb (registers_written (written world.registers at width value) world)
-write_quiet corb rirb world at value width beside quiet =
+write_quiet : (corb rirb : ℕ) (world : World) (at value : ℕ) (width : Width) → IsBesideRings at → InputIsApart corb rirb (after_write at width value world) → IsQuiet corb rirb world
+    → IsQuiet corb rirb (registers_written (written world.registers at width value) world)
+write_quiet corb rirb world at value width beside apart quiet =
     let leaves = leaves-rings world.registers at width value beside in
     record {
       corb_stopped = leaves.corb_run ∙ quiet.corb_stopped;
@@ -116,46 +123,48 @@ write_quiet corb rirb world at value width beside quiet =
       blocks = quiet.blocks;
       ascend = quiet.ascend;
       nothing_comes = quiet.nothing_comes;
+      apart = subst (InputIsApart corb rirb) (beside_write world at value width beside) apart;
     }
 
-stored_quiet : (corb rirb : ℕ) (world : World) (at : ℕ) (bytes : List ℕ) → IsQuiet corb rirb world → IsQuiet corb rirb (happens world (DmaWrite at bytes))
-stored_quiet corb rirb world at bytes quiet = record {
+stored_quiet : (corb rirb : ℕ) (world : World) (at : ℕ) (bytes : List ℕ) → InputIsApart corb rirb (happens world (DmaWrite at bytes)) → IsQuiet corb rirb world → IsQuiet corb rirb (happens world (DmaWrite at bytes))
+stored_quiet corb rirb world at bytes apart quiet = record {
   corb_stopped = quiet.corb_stopped;
   rirb_stopped = quiet.rirb_stopped;
   flag = quiet.flag;
   blocks = subst (HasBlocks corb rirb) (sym (stored_outside at bytes world.memory).0) quiet.blocks;
   ascend = quiet.ascend;
   nothing_comes = quiet.nothing_comes;
+  apart = apart;
 }
 
-quiet_event : (corb rirb : ℕ) (event : Event) (world : World) → LeavesRegisters event → IsQuiet corb rirb world → IsQuiet corb rirb (happens world event)
-quiet_event corb rirb (Stepped step) world leaves quiet = quiet_steps corb rirb (step ∷ []) world quiet
-quiet_event corb rirb Begin world leaves quiet = quiet
-quiet_event corb rirb End world leaves quiet = quiet
-quiet_event corb rirb (Read at width value) world leaves quiet = quiet
-quiet_event corb rirb (Write at width value) world leaves quiet =
-    subst (IsQuiet corb rirb) (sym (beside_write world at value width leaves)) (write_quiet corb rirb world at value width leaves quiet)
-quiet_event corb rirb (DmaRead at bytes) world leaves quiet = quiet
-quiet_event corb rirb (DmaWrite at bytes) world leaves quiet = stored_quiet corb rirb world at bytes quiet
+quiet_event : (corb rirb : ℕ) (event : Event) (world : World) → LeavesRegisters event → StaysApart corb rirb event world → IsQuiet corb rirb world → IsQuiet corb rirb (happens world event)
+quiet_event corb rirb (Stepped step) world leaves apart quiet = quiet_steps corb rirb (step ∷ []) world quiet
+quiet_event corb rirb Begin world leaves apart quiet = quiet
+quiet_event corb rirb End world leaves apart quiet = quiet
+quiet_event corb rirb (Read at width value) world leaves apart quiet = quiet
+quiet_event corb rirb (Write at width value) world leaves apart quiet =
+    subst (IsQuiet corb rirb) (sym (beside_write world at value width leaves)) (write_quiet corb rirb world at value width leaves apart quiet)
+quiet_event corb rirb (DmaRead at bytes) world leaves apart quiet = quiet
+quiet_event corb rirb (DmaWrite at bytes) world leaves apart quiet = stored_quiet corb rirb world at bytes apart quiet
 
-pub quiet_events : (corb rirb : ℕ) (events : List Event) (world : World) → LeaveRegisters events → IsQuiet corb rirb world → IsQuiet corb rirb (after events world)
+pub quiet_events : (corb rirb : ℕ) (events : List Event) (world : World) → LeaveRegisters corb rirb events world → IsQuiet corb rirb world → IsQuiet corb rirb (after events world)
 quiet_events corb rirb [] world leave quiet = quiet
-quiet_events corb rirb (event ∷ events) world leave quiet = quiet_events corb rirb events (happens world event) leave.1 (quiet_event corb rirb event world leave.0 quiet)
+quiet_events corb rirb (event ∷ events) world leave quiet = quiet_events corb rirb events (happens world event) leave.2 (quiet_event corb rirb event world leave.0 leave.1 quiet)
 
-can_start_event : (corb rirb : ℕ) (event : Event) (world : World) → LeavesRegisters event → CanStart corb rirb world → CanStart corb rirb (happens world event)
-can_start_event corb rirb (Stepped step) world leaves can = can_start_steps corb rirb (step ∷ []) world can
-can_start_event corb rirb Begin world leaves can = can
-can_start_event corb rirb End world leaves can = can
-can_start_event corb rirb (Read at width value) world leaves can = can
-can_start_event corb rirb (Write at width value) world leaves can =
+can_start_event : (corb rirb : ℕ) (event : Event) (world : World) → LeavesRegisters event → StaysApart corb rirb event world → CanStart corb rirb world → CanStart corb rirb (happens world event)
+can_start_event corb rirb (Stepped step) world leaves apart can = can_start_steps corb rirb (step ∷ []) world can
+can_start_event corb rirb Begin world leaves apart can = can
+can_start_event corb rirb End world leaves apart can = can
+can_start_event corb rirb (Read at width value) world leaves apart can = can
+can_start_event corb rirb (Write at width value) world leaves apart can =
     subst (CanStart corb rirb) (sym (beside_write world at value width leaves))
-    (record { quiet = write_quiet corb rirb world at value width leaves can.quiet; out = written-out world.registers at value width (not_control at leaves) can.out })
-can_start_event corb rirb (DmaRead at bytes) world leaves can = can
-can_start_event corb rirb (DmaWrite at bytes) world leaves can = record { quiet = stored_quiet corb rirb world at bytes can.quiet; out = can.out }
+    (record { quiet = write_quiet corb rirb world at value width leaves apart can.quiet; out = written-out world.registers at value width (not_control at leaves) can.out })
+can_start_event corb rirb (DmaRead at bytes) world leaves apart can = can
+can_start_event corb rirb (DmaWrite at bytes) world leaves apart can = record { quiet = stored_quiet corb rirb world at bytes apart can.quiet; out = can.out }
 
-pub can_start_events : (corb rirb : ℕ) (events : List Event) (world : World) → LeaveRegisters events → CanStart corb rirb world → CanStart corb rirb (after events world)
+pub can_start_events : (corb rirb : ℕ) (events : List Event) (world : World) → LeaveRegisters corb rirb events world → CanStart corb rirb world → CanStart corb rirb (after events world)
 can_start_events corb rirb [] world leave can = can
-can_start_events corb rirb (event ∷ events) world leave can = can_start_events corb rirb events (happens world event) leave.1 (can_start_event corb rirb event world leave.0 can)
+can_start_events corb rirb (event ∷ events) world leave can = can_start_events corb rirb events (happens world event) leave.2 (can_start_event corb rirb event world leave.0 leave.1 can)
 
 -- ---- a reset
 
@@ -201,6 +210,15 @@ reset_registers fields value even =
     let g = global_written fields.shape (access_of 0x08 Four value) fields.global in
     write-control fields value ∙ in_reset fields g (ap (λ (g : Global). g.controller_reset) (control-written fields.shape fields.global value) ∙ even)
 
+-- the input stream does not run after it
+reset_stops : (value : ℕ) (world : World) → value % 2 ≡ 0 → is_running (after_write 0x08 Four value world).registers.input ≡ false
+reset_stops value world even =
+    ap (λ (f : Fields). is_running f.input) (write_registers world 0x08 value Four) ∙ ap (λ (f : Fields). is_running f.input) (reset_registers world.registers value even)
+
+pub reset_apart : (corb rirb value : ℕ) (world : World) → value % 2 ≡ 0 → InputIsApart corb rirb (after_write 0x08 Four value world)
+reset_apart corb rirb value world even =
+    stopped_apart corb rirb (after_write 0x08 Four value world).memory (input_of (after_write 0x08 Four value world)) (reset_stops value world even)
+
 pub reset_quiet : (corb rirb value : ℕ) (world : World) → value % 2 ≡ 0 → HasBlocks corb rirb (length world.memory) → AscendByAddress world.codecs → IsQuiet corb rirb (after_write 0x08 Four value world)
 reset_quiet corb rirb value world even blocks ascend =
     let is = reset_registers world.registers value even in
@@ -214,6 +232,7 @@ reset_quiet corb rirb value world even blocks ascend =
       blocks = blocks;
       ascend = subst (AscendFrom 0) (sym (graphs_cleared world.codecs)) ascend;
       nothing_comes = record { in_ring = All-nil _; in_controller = All-nil _; at_codecs = none.0; few = omega arith };
+      apart = subst (InputIsApart corb rirb) (reset_write world 0x08 value Four (resets world.registers value even)) (reset_apart corb rirb value world even);
     })
 
 -- ---- the controller leaves reset
@@ -246,6 +265,14 @@ leaves_reset fields held =
     ap (λ (reset : ℕ). not (reset == 1) && is_out_of_reset (written fields 0x08 Four 0x101).global) held
     ∙ ap (λ (f : Fields). not (0 == 1) && is_out_of_reset f.global) (risen_registers fields 0x101 refl).1
 
+risen_apart : (corb rirb value : ℕ) (world : World) → value % 2 ≡ 1 → InputIsApart corb rirb world → InputIsApart corb rirb (after_write 0x08 Four value world)
+risen_apart corb rirb value world odd apart =
+    let out : is_out_of_reset (after_write 0x08 Four value world).registers.global ≡ true =
+    ap (λ (w : World). is_out_of_reset w.registers.global) (rising world value odd).1 ∙ ap (λ (f : Fields). is_out_of_reset f.global) (risen_registers world.registers value odd).1 in
+    let stay = streams_out world 0x08 value Four (inl (lit< tt)) out in
+    same_apart corb rirb world (after_write 0x08 Four value world) (write_memory world 0x08 value Four)
+    (ap₂ (λ (descriptor : Descriptor) (state : StreamState). record { descriptor = descriptor; state = state }) stay.input_registers stay.input) apart
+
 pub risen_can_start : (corb rirb value : ℕ) (world : World) → value % 2 ≡ 1 → IsQuiet corb rirb world → CanStart corb rirb (after_write 0x08 Four value world)
 risen_can_start corb rirb value world odd quiet =
     let is = (risen_registers world.registers value odd).1 in
@@ -258,16 +285,34 @@ risen_can_start corb rirb value world odd quiet =
         blocks = quiet.blocks;
         ascend = quiet.ascend;
         nothing_comes = quiet.nothing_comes;
+        apart = subst (InputIsApart corb rirb) (rising world value odd).1 (risen_apart corb rirb value world odd quiet.apart);
       };
       out = ap (λ (f : Fields). is_out_of_reset f.global) is;
     })
 
 -- ---- all of it
 
-pub reset_can_start : (corb rirb : ℕ) (before later : List Event) (world : World) → HasBlocks corb rirb (length world.memory) → AscendByAddress world.codecs → LeaveRegisters before → LeaveRegisters later
+pub reset_can_start : (corb rirb : ℕ) (before later : List Event) (world : World) → HasBlocks corb rirb (length world.memory) → AscendByAddress world.codecs → LeaveRegisters corb rirb before (after_write 0x08 Four 0 world)
+    → LeaveRegisters corb rirb later (after_write 0x08 Four 0x101 (after before (after_write 0x08 Four 0 world)))
     → CanStart corb rirb (after later (after_write 0x08 Four 0x101 (after before (after_write 0x08 Four 0 world))))
 reset_can_start corb rirb before later world blocks ascend first second =
     let reset = reset_quiet corb rirb 0 world refl blocks ascend in
     let waits = quiet_events corb rirb before (after_write 0x08 Four 0 world) first reset in
     can_start_events corb rirb later (after_write 0x08 Four 0x101 (after before (after_write 0x08 Four 0 world))) second
     (risen_can_start corb rirb 0x101 (after before (after_write 0x08 Four 0 world)) refl waits)
+
+-- where no event sets the input stream going
+risen_stopped : (value : ℕ) (world : World) → value % 2 ≡ 1 → is_running world.registers.input ≡ false → is_running (after_write 0x08 Four value world).registers.input ≡ false
+risen_stopped value world odd stopped =
+    ap (λ (f : Fields). is_running f.input) (write_registers world 0x08 value Four) ∙ ap (λ (f : Fields). is_running f.input) (risen_registers world.registers value odd).1 ∙ stopped
+
+pub reset_can_start_stopped : (corb rirb : ℕ) (before later : List Event) (world : World) → HasBlocks corb rirb (length world.memory) → AscendByAddress world.codecs
+    → All LeavesRegisters before → All LeavesInput before → All LeavesRegisters later → All LeavesInput later
+    → CanStart corb rirb (after later (after_write 0x08 Four 0x101 (after before (after_write 0x08 Four 0 world))))
+reset_can_start_stopped corb rirb before later world blocks ascend first first_input second second_input =
+    let reset = after_write 0x08 Four 0 world in
+    let still = reset_stops 0 world refl in
+    let waits = stopped_events before reset first_input still in
+    let up = risen_stopped 0x101 (after before reset) refl waits in
+    reset_can_start corb rirb before later world blocks ascend (stopped_leave corb rirb before reset first first_input still)
+    (stopped_leave corb rirb later (after_write 0x08 Four 0x101 (after before reset)) second second_input up)

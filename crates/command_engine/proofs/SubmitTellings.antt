@@ -11,17 +11,20 @@ use Rattle.world_rings.specs.declared.response.Response.{Response}
 use Rattle.world_rings.specs.Memory.{word_at, stored, IsOutside}
 use Rattle.world_rings.specs.Entries.{next_place}
 use Rattle.world_rings.proofs.Callers.{stored_outside, piece_is_stored}
-use Rattle.hda_world.specs.Worlds.{World, TakenCommand}
+use Rattle.hda_world.specs.Worlds.{World, TakenCommand, input_of}
 use Rattle.hda_world.specs.Events as happens
 use Rattle.hda_world.specs.Tellings.{Telling, world_of, Makes}
 use Rattle.hda_world.specs.Kept.{Kept}
-use Rattle.hda_world.proofs.Callers.{accessed_then, plain_write}
+use Rattle.hda_world.proofs.Callers.{accessed_then, plain_write, same_word}
 use Rattle.command_engine.specs.declared.ring_places.RingPlaces.{RingPlaces}
 use Rattle.command_engine.specs.declared.answers.Outstanding.{Outstanding}
 use Rattle.command_engine.specs.Blocks.{are_apart}
 use Rattle.command_engine.specs.Submitting.{command_place, submit_accesses, rings_submitted}
+use Rattle.command_engine.specs.Apart.{InputIsApart}
 use Rattle.command_engine.specs.Fetchings.{RingPart, part_of, AreOf, AllFetched, IsFetching, StandsBy, Stands}
 use Rattle.command_engine.proofs.Batches.{EachStands, word_stays}
+use Rattle.command_engine.proofs.Apart.{corb_written, write_apart}
+use Rattle.command_engine.proofs.Pieces.{outside_piece}
 use Rattle.command_engine.proofs.Keeping.{keeps_standing}
 use Rattle.command_engine.proofs.Holding.{Holding, keeps_holding}
 
@@ -68,9 +71,14 @@ module _ (from read corb rirb : ℕ) (rings : RingPlaces) (stands : EachStands) 
       by (inl all) = all
       by (inr next) = absurd next.is
 
+  -- what lies outside CORB's block lies outside the entry
+  inside_corb : at_entry + 4 ≤ corb + 1024 → (at : ℕ) → IsOutside corb 1024 at → IsOutside at_entry 4 at
+  inside_corb fits at (inl below) = inl (omega (arith, below))
+  inside_corb fits at (inr above) = inr (omega (arith, above, fits))
+
   -- the word is written while nothing is left to fetch
   pub stored_stands : (world : World) → Stands from read corb rirb rings world
-      → StandsBy from read corb rirb rings (part_of world.registers) (stored world.memory at_entry (little_bytes 4 command.word)) world.codecs world.waiting world.commands world.written
+      → StandsBy from read corb rirb rings (part_of world.registers) (stored world.memory at_entry (little_bytes 4 command.word)) world.codecs world.waiting world.commands world.written (input_of world)
   stored_stands world holds =
       let both = stored_outside at_entry (little_bytes 4 command.word) world.memory in
       let long = length-bytes_low_first 0 4 command.word in
@@ -95,6 +103,8 @@ module _ (from read corb rirb : ℕ) (rings : RingPlaces) (stands : EachStands) 
         fetching = let all = all_fetched world holds in subst (λ (outstanding : Option Outstanding). IsFetching outstanding (part_of world.registers) (word_at (stored world.memory at_entry (little_bytes 4 command.word)) (corb + 4 * rings.submitted)) (drop from world.commands)) (sym idle) (inl all);
         taken_by = holds.taken_by;
         on_its_way = holds.on_its_way;
+        apart = corb_written corb rirb world.memory (stored world.memory at_entry (little_bytes 4 command.word)) (input_of world)
+            (λ at outside. both.1 at (rw long (inside_corb (omega (arith, place, corb_few)) at outside))) holds.apart;
       }
 
   abbrev HasWord : ℕ → List ℕ → List Response → Type 0
@@ -109,6 +119,11 @@ module _ (from read corb rirb : ℕ) (rings : RingPlaces) (stands : EachStands) 
       let place = place_below in
       let few = few_entries rings.corb in
       word_stays (response ∷ rest) world.registers world.memory corb (command_place rings) (subst (λ (at : ℕ). are_apart corb at ≡ true) (sym base) holds.0.blocks.apart) (omega arith) ∙ holds.1)
+      (λ world at byte holds corb_beside rirb_beside.
+      let place = place_below in
+      let few = few_entries rings.corb in
+      same_word world.memory (stored world.memory at (byte ∷ [])) at_entry
+      (λ here small. (stored_outside at (byte ∷ []) world.memory).1 (at_entry + here) (outside_piece corb 1024 at 1 (at_entry + here) corb_beside (omega arith) (omega (arith, place, few, small)))) ∙ holds.1)
 
   -- CORB's write pointer moves to it
   pointed_stands : (world : World) → Submits world → Stands from read corb rirb (rings_submitted rings command) (happens.after_write 0x48 Two (command_place rings) world)
@@ -127,8 +142,9 @@ module _ (from read corb rirb : ℕ) (rings : RingPlaces) (stands : EachStands) 
       let stood = all.pointers ∙ has.submitted in
       let next : next_place world.registers.global.corb_read_pointer (entries_of world.registers.shape.corb) ≡ place = ap (λ (n : ℕ). next_place n (entries_of world.registers.shape.corb)) stood ∙ ap (next_place rings.submitted) size in
       let way = holds.0 in
-      subst (λ (w : World). Stands from read corb rirb (rings_submitted rings command) w) (sym (plain_write world 0x48 place Two (keeps-reset world.registers 0x48 Two place (omega arith)) (keeps-left world.registers 0x48 Two place (omega arith))))
-      (subst (λ (part : RingPart). StandsBy from read corb rirb (rings_submitted rings command) part world.memory world.codecs world.waiting world.commands world.written) (sym part) (record {
+      let plain = plain_write world 0x48 place Two (keeps-reset world.registers 0x48 Two place (omega arith)) (keeps-left world.registers 0x48 Two place (omega arith)) in
+      subst (λ (w : World). Stands from read corb rirb (rings_submitted rings command) w) (sym plain)
+      (subst (λ (part : RingPart). StandsBy from read corb rirb (rings_submitted rings command) part world.memory world.codecs world.waiting world.commands world.written (input_of (happens.registers_written new world))) (sym part) (record {
         has_rings = record {
           out = has.out;
           corb_size = has.corb_size;
@@ -151,6 +167,7 @@ module _ (from read corb rirb : ℕ) (rings : RingPlaces) (stands : EachStands) 
         fetching = inr (record { pointers = next; is = holds.1; none = are_none (drop from world.commands) all.taken });
         taken_by = way.taken_by;
         on_its_way = way.on_its_way;
+        apart = subst (InputIsApart corb rirb) plain (write_apart corb rirb world 0x48 place Two (omega arith) (inl (lit< tt)) way.apart);
       }))
 
   pub submit_leaves : (old new : Telling) → command.word < 2 ^ 32 → Makes (submit_accesses corb rings command.word) old new → Stands from read corb rirb rings (world_of old)

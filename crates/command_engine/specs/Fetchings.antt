@@ -14,15 +14,17 @@ use Rattle.world_rings.specs.declared.response.Response.{Response}
 use Rattle.world_rings.specs.declared.entries.TheConstants.{COMMAND_BYTES, RESPONSE_BYTES}
 use Rattle.world_rings.specs.Memory.{word_at}
 use Rattle.world_rings.specs.Entries.{next_place, response_bytes}
-use Rattle.hda_world.specs.Worlds.{World, TakenCommand}
+use Rattle.world_streams.specs.Streams.{Stream}
+use Rattle.hda_world.specs.Worlds.{World, TakenCommand, input_of}
 use Rattle.hda_world.specs.Steps.{address_of}
 use Rattle.hda_world.specs.Unread.{IsReadTo}
 use Rattle.hda_registers.specs.Laws.{IsBesideRings}
-use Rattle.hda_world.specs.Events.{Event, Stepped, Begin, End, Read, Write, DmaRead, DmaWrite}
+use Rattle.hda_world.specs.Events.{Event, Stepped, Begin, End, Read, Write, DmaRead, DmaWrite, happens}
 use Rattle.command_engine.specs.declared.ring_places.RingPlaces.{RingPlaces}
 use Rattle.command_engine.specs.declared.answers.Outstanding.{Outstanding}
 use Rattle.command_engine.specs.Blocks.{corb_bytes, rirb_bytes, are_apart}
 use Rattle.command_engine.specs.Sizes.{half_of}
+use Rattle.command_engine.specs.Apart.{IsApartBy, StaysApart}
 
 -- ---- the registers of both rings
 
@@ -168,10 +170,11 @@ AreStanding rirb size place memory unread =
     (response_bytes response) byte
 
 -- how the engine stands to the world: its blocks lie at these addresses, codecs had taken `from` commands before the
--- outstanding one was submitted, and it read the first `read` of all responses that were written
+-- outstanding one was submitted, it read the first `read` of all responses that were written, and what the input stream
+-- stores lies apart from it
 pub record StandsBy (from read corb rirb : ℕ) (rings : RingPlaces) (part : RingPart) (memory : List ℕ)
     (codecs : List CodecState) (waiting : List Response) (commands : List TakenCommand) (written : List Response)
-    : Type 0 where
+    (input : Stream) : Type 0 where
   pub has_rings : HasRings corb rirb rings part
   pub blocks : HasBlocks corb rirb (length memory)
   pub ascend : AscendByAddress codecs
@@ -185,11 +188,12 @@ pub record StandsBy (from read corb rirb : ℕ) (rings : RingPlaces) (part : Rin
       (drop from commands)
   pub taken_by : AreOfCodecs codecs (drop from commands)
   pub on_its_way : IsOnItsWay (drop from commands) (drop read written) waiting codecs
+  pub apart : IsApartBy corb rirb memory input
 
 abbrev pub Stands : (from read corb rirb : ℕ) → RingPlaces → World → Type 0
 Stands from read corb rirb rings world =
     StandsBy from read corb rirb rings (part_of world.registers) world.memory world.codecs world.waiting world.commands
-    world.written
+    world.written (input_of world)
 
 -- ---- what else happens between the engine's calls
 
@@ -209,6 +213,8 @@ IsBeside corb rirb (DmaRead at bytes) = Unit {0}
 IsBeside corb rirb (DmaWrite at bytes) = IsBesideBlock corb corb_bytes at (length bytes)
     × IsBesideBlock rirb rirb_bytes at (length bytes)
 
-abbrev pub AreBeside : ℕ → ℕ → List Event → Type 0
-AreBeside corb rirb [] = Unit {0}
-AreBeside corb rirb (event ∷ events) = IsBeside corb rirb event × AreBeside corb rirb events
+-- several are, and after each of them the input stream still lies apart
+abbrev pub AreBeside : ℕ → ℕ → List Event → World → Type 0
+AreBeside corb rirb [] world = Unit {0}
+AreBeside corb rirb (event ∷ events) world = IsBeside corb rirb event × StaysApart corb rirb event world
+    × AreBeside corb rirb events (happens world event)

@@ -5,6 +5,7 @@ pub mod Entries
 pub mod Starting
 pub mod Submitting
 pub mod Polling
+pub mod Apart
 pub mod Fetchings
 pub mod Belonging
 pub mod Quiet

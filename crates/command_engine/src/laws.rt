@@ -23,10 +23,10 @@ pub fn steps_keep_standing()
 {}
 
 /// It is kept too by marks, reads, and writes that touch neither GCTL, nor a register of CORB or RIRB, nor the engine's
-/// blocks.
+/// blocks, and after which what the input stream stores lies apart from these blocks.
 pub fn events_beside_keep_standing()
     ensures { (from read corb rirb : ℕ) (rings : RingPlaces) (events : List Event) (world : World)
-        → AreBeside corb rirb events → Stands from read corb rirb rings world
+        → AreBeside corb rirb events world → Stands from read corb rirb rings world
         → Stands from read corb rirb rings (after events world) }
 {}
 
@@ -40,28 +40,30 @@ pub fn few_responses_are_unread()
 {}
 
 /// While neither ring runs and no answer to a command waits, it stays so over steps of the device and over every event
-/// that is no write of GCTL or of a register of CORB or RIRB.
+/// that is no write of GCTL or of a register of CORB or RIRB, and that leaves the input stream apart.
 pub fn the_world_stays_quiet()
     ensures steps { (corb rirb : ℕ) (steps : List Step) (world : World) → IsQuiet corb rirb world
         → IsQuiet corb rirb (after_steps steps world) }
-    ensures events { (corb rirb : ℕ) (events : List Event) (world : World) → LeaveRegisters events
+    ensures events { (corb rirb : ℕ) (events : List Event) (world : World) → LeaveRegisters corb rirb events world
         → IsQuiet corb rirb world
         → IsQuiet corb rirb (after events world) }
 {}
 
 /// What a start asks of the world is kept by steps of the device and by every event that is no write of GCTL or of a
-/// register of CORB or RIRB. So a driver may reset the controller in one stretch and start the engine in a later one.
+/// register of CORB or RIRB, and that leaves the input stream apart. So a driver may reset the controller in one
+/// stretch and start the engine in a later one.
 pub fn a_start_stays_possible()
     ensures steps { (corb rirb : ℕ) (steps : List Step) (world : World) → CanStart corb rirb world
         → CanStart corb rirb (after_steps steps world) }
-    ensures events { (corb rirb : ℕ) (events : List Event) (world : World) → LeaveRegisters events
+    ensures events { (corb rirb : ℕ) (events : List Event) (world : World) → LeaveRegisters corb rirb events world
         → CanStart corb rirb world
         → CanStart corb rirb (after events world) }
 {}
 
 /// A reset leads to a start, from every world whose codecs ascend by address up to 14 and whose region has both blocks:
 /// a write of GCTL whose CRST is 0 quiets it, one whose CRST is 1 then makes a start possible, and so do both with
-/// other events before and after the second (HDA 1.0a, 4.3).
+/// other events before and after the second (HDA 1.0a, 4.3). Since the first stops the input stream too, events leave
+/// it apart that write no register of its descriptor.
 pub fn a_reset_leads_to_a_start()
     ensures resets { (corb rirb value : ℕ) (world : World) → value % 2 ≡ 0 → HasBlocks corb rirb (length world.memory)
         → AscendByAddress world.codecs → IsQuiet corb rirb (after_write GCTL Four value world) }
@@ -69,7 +71,14 @@ pub fn a_reset_leads_to_a_start()
         → CanStart corb rirb (after_write GCTL Four value world) }
     ensures leads { (corb rirb : ℕ) (before later : List Event) (world : World)
         → HasBlocks corb rirb (length world.memory)
-        → AscendByAddress world.codecs → LeaveRegisters before → LeaveRegisters later
+        → AscendByAddress world.codecs → LeaveRegisters corb rirb before (after_write GCTL Four 0 world)
+        → LeaveRegisters corb rirb later
+        (after_write GCTL Four 0x101 (after before (after_write GCTL Four 0 world)))
+        → CanStart corb rirb (after later
+        (after_write GCTL Four 0x101 (after before (after_write GCTL Four 0 world)))) }
+    ensures leaves { (corb rirb : ℕ) (before later : List Event) (world : World)
+        → HasBlocks corb rirb (length world.memory) → AscendByAddress world.codecs
+        → All LeavesRegisters before → All LeavesInput before → All LeavesRegisters later → All LeavesInput later
         → CanStart corb rirb (after later
         (after_write GCTL Four 0x101 (after before (after_write GCTL Four 0 world)))) }
 {}

@@ -5,6 +5,7 @@
 
 mod answers;
 mod engine;
+mod input_laws;
 mod laws;
 mod memory;
 mod ring_places;
@@ -13,6 +14,10 @@ mod room;
 pub use answers::{ANSWER_LIMIT, Event, Outstanding, Poll};
 pub use engine::{CORB_BYTES, Engine, MOST_EVENTS, RIRB_BYTES};
 pub use hda_platform::OpenFault;
+pub use input_laws::{
+    a_stopped_input_stays_apart, events_beside_input_keep_standing, stopped_inputs_leave_registers,
+    stopped_inputs_stay_beside, writes_leave_inputs_apart,
+};
 pub use laws::{
     a_reset_leads_to_a_start, a_start_stays_possible, events_beside_keep_standing,
     few_responses_are_unread, settled_codecs_answer_whole, steps_keep_standing,

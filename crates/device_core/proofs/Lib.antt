@@ -1,5 +1,8 @@
 pub mod Standing
+pub mod Takers
+pub mod Bringing
 pub mod Places
+pub mod Hearing
 pub mod Frames
 pub mod Writes
 pub mod Sounding

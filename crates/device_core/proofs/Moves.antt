@@ -9,10 +9,11 @@ use Rattle.hda_registers.specs.Fields.{Fields, is_out_of_reset}
 use Rattle.world_rings.specs.declared.response.Response.{Response}
 use Rattle.hda_world.specs.Worlds.{World, codec_at, with_codec}
 use Rattle.hda_world.specs.Steps.{waiting_of, sent_first, answer_step, responses_of, lost, lose_step, plugged_at}
-use Rattle.device_core.specs.Codecs.{addresses_of}
+use Rattle.device_core.specs.Codecs.{KeepCodecs, addresses_of}
 use Rattle.device_core.specs.Devices.{DeviceState, IsWorld, can_receive_now}
 use Rattle.device_core.specs.Keeping.{IsDevice}
 use Rattle.device_core.specs.Codecs.{AreAddresses}
+use Rattle.device_core.proofs.Takers.{source-kept}
 
 -- codecs and what waits became others, and nothing else
 pub with_queues : (memory : List ℕ) (old : DeviceState) (world : World) (codecs there : List CodecState) (waiting queue : List Response) → IsWorld memory old world
@@ -24,17 +25,20 @@ with_queues memory old world codecs there waiting queue is same_codecs same_wait
   codecs_are = same_codecs;
   waiting_is = same_waiting;
   frames_are = is.frames_are;
+  captured = record { given_is = is.captured.given_is; came_is = is.captured.came_is };
   input_stands = is.input_stands;
   output_stands = is.output_stands;
 }
 
-pub keeps_queues : (old : DeviceState) (codecs : List CodecState) (waiting : List Response) → IsDevice old → addresses_of codecs ≡ addresses_of old.codecs
+pub keeps_queues : (old : DeviceState) (codecs : List CodecState) (waiting : List Response) → IsDevice old → addresses_of codecs ≡ addresses_of old.codecs → KeepCodecs old.codecs codecs
     → IsDevice (record old { codecs = codecs; waiting = waiting })
-keeps_queues old codecs waiting keeps same = record {
+keeps_queues old codecs waiting keeps same parts = record {
   held = keeps.held;
   addresses = subst AreAddresses (sym same) keeps.addresses;
   input_index = keeps.input_index;
   output_index = keeps.output_index;
+  came_fits = keeps.came_fits;
+  source_is = source-kept old.input.source old.codecs codecs parts keeps.source_is;
   input_stands = keeps.input_stands;
   output_stands = keeps.output_stands;
 }

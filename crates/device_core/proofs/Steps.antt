@@ -1,5 +1,5 @@
 -- That the device goes where the world goes: the engines of the rings, and the bytes that streams fetch.
-use Rattle.std.proofs.Common.{◌≡◌, ◌==◌, ◌&&◌, ℕ, Bool, true, false, List, [], ◌∷◌, length, drop, get_or, Option, Some, None, if◌then◌else◌, refl, sym, ap, subst, ◌∙◌}
+use Rattle.std.proofs.Common.{◌≡◌, ◌==◌, ◌&&◌, ℕ, min, Bool, true, false, List, [], ◌∷◌, length, drop, get_or, Option, Some, None, if◌then◌else◌, refl, sym, ap, subst, ◌∙◌}
 use Rattle.std.specs.Prelude.{slice_get}
 use Rattle.codec_graph.specs.CodecStates.{CodecState, taken, is_full}
 use Rattle.hda_registers.specs.Fields.{Fields, Global, Descriptor, is_out_of_reset, is_running, stream_of}
@@ -9,15 +9,20 @@ use Rattle.world_rings.specs.Engines.{can_fetch, next_word, after_corb, batch, a
 use Rattle.world_rings.specs.Entries.{fetched, next_command, responses_stored}
 use Rattle.world_streams.specs.Streams.{StreamState, Stream}
 use Rattle.world_streams.specs.Output.{fetch}
-use Rattle.stream_descriptor.specs.Running.{Playing, StandsFor, Runs, LeadsTo, with_descriptor, fetched_at}
+use Rattle.world_streams.specs.Input.{Storage}
+use Rattle.world_streams.proofs.Callers.{store-stopped}
+use Rattle.stream_descriptor.specs.Running.{Counts, Playing, StandsFor, StandsForBy, RunsBy, LeadsTo, with_descriptor, fetched_at}
+use Rattle.stream_descriptor.specs.Taking.{TakesFor}
 use Rattle.stream_descriptor.proofs.Callers.{beside_output}
 use Rattle.world_steps.specs.declared.Step.{Step}
 use Rattle.world_steps.specs.declared.Step.TheVariants as step
 use Rattle.hda_world.specs.Worlds.{World, output_of, codec_at, with_codec}
-use Rattle.hda_world.specs.Steps.{after_step, address_of, is_busy, handed, handed_next, corb_step, rirb_step, fetch_step, output_fetched}
+use Rattle.hda_world.specs.Steps.{after_step, address_of, is_busy, handed, handed_next, corb_step, rirb_step, fetch_step, output_fetched, input_stored, storage_of, with_storage}
 use Rattle.hda_world.specs.Leaving.{NamesNoStream, StepsLeave}
 use Rattle.hda_world.proofs.Callers.{steps_leave, step_leaves_streams}
 use Rattle.device_core.specs.Codecs.{addresses_of, place_of, taken_by, taken_there, handed_by}
+use Rattle.device_core.specs.Captures.{IsSourceOf, most_came}
+use Rattle.device_core.specs.declared.capture.Source.{Source}
 use Rattle.device_core.specs.Devices.{DeviceState, AreAlike, IsWorld, KeepsSound}
 use Rattle.device_core.specs.Keeping.{IsDevice}
 use Rattle.device_core.proofs.Places.{codec_there, codec_is}
@@ -28,14 +33,15 @@ use Rattle.device_core.proofs.Standing.{shown_world, device_from, held_on}
 -- what holds of a device at all times holds after a step, and the output stream's tag and format stay
 pub step_keeps : (taken : Step) (memory after : List ℕ) (old new : DeviceState) → IsDevice old → IsWorld after new (after_step taken (shown_world memory old))
     → (is_out_of_reset old.registers.global ≡ false → (after_step taken (shown_world memory old)).registers ≡ old.registers)
-    → addresses_of new.codecs ≡ addresses_of old.codecs → new.input.index ≡ old.input.index → new.output.index ≡ old.output.index → IsDevice new
-step_keeps taken memory after old new keeps is still addresses input output =
+    → addresses_of new.codecs ≡ addresses_of old.codecs → IsSourceOf new.input.source new.codecs → new.input.playing.index ≡ old.input.playing.index → new.output.index ≡ old.output.index
+    → IsDevice new
+step_keeps taken memory after old new keeps is still addresses source input output =
     let world : World = after_step taken (shown_world memory old) in
     let left : StepsLeave (shown_world memory old) world = steps_leave (taken ∷ []) (shown_world memory old) in
     device_from after old new world keeps is
     (held_on old.registers new.registers keeps.held (λ off. sym is.registers_are ∙ still off)
     (ap (λ (f : Fields). f.global.controller_reset) (sym is.registers_are) ∙ ap (λ (g : Global). g.controller_reset) left.registers.global))
-    addresses input output
+    addresses source input output
 
 pub step_keeps_sound : (taken : Step) (memory after : List ℕ) (old new : DeviceState) → IsWorld after new (after_step taken (shown_world memory old))
     → KeepsSound old.registers new.registers
@@ -48,15 +54,15 @@ step_keeps_sound taken memory after old new is =
     }
 
 -- a stream stands for its state in registers of the same shape with the same descriptors
-pub stands_on : (playing : Playing) (old new : Fields) (state : StreamState) → StandsFor playing old state → new.shape ≡ old.shape → new.input ≡ old.input → new.output ≡ old.output
-    → StandsFor playing new state
-stands_on playing old new state stands shape input output =
+pub stands_on : {counts : Counts} (playing : Playing) (old new : Fields) (state : StreamState) → StandsForBy counts playing old state → new.shape ≡ old.shape → new.input ≡ old.input → new.output ≡ old.output
+    → StandsForBy counts playing new state
+stands_on {counts} playing old new state stands shape input output =
     let here : stream_of new playing.index ≡ stream_of old playing.index =
     ap (λ (d : Descriptor). if playing.index == 0 then d else new.output) input ∙ ap (λ (d : Descriptor). if playing.index == 0 then old.input else d) output in
     record {
       capacity = stands.capacity ∙ ap (λ (s : Shape). s.fifo) (sym shape);
       stopped = λ off. stands.stopped (ap is_running (sym here) ∙ off);
-      running = λ on. subst (λ (d : Descriptor). Runs playing (record { descriptor = d; state = state })) (sym here) (stands.running (ap is_running (sym here) ∙ on));
+      running = λ on. subst (λ (d : Descriptor). RunsBy counts playing (record { descriptor = d; state = state })) (sym here) (stands.running (ap is_running (sym here) ∙ on));
     }
 
 module _ (memory : List ℕ) (old : DeviceState) (world : World) (is : IsWorld memory old world) (taken : Step) (apart : NamesNoStream taken) (new : Fields) (same : (after_step taken world).registers ≡ new) where
@@ -66,7 +72,7 @@ module _ (memory : List ℕ) (old : DeviceState) (world : World) (is : IsWorld m
   left : StepsLeave world after
   left = steps_leave (taken ∷ []) world
 
-  both : (playing : Playing) (state : StreamState) → StandsFor playing old.registers state → StandsFor playing new state
+  both : {counts : Counts} (playing : Playing) (state : StreamState) → StandsForBy counts playing old.registers state → StandsForBy counts playing new state
   both playing state stands =
       let stay = step_leaves_streams taken world apart in
       stands_on playing old.registers new state stands
@@ -74,8 +80,8 @@ module _ (memory : List ℕ) (old : DeviceState) (world : World) (is : IsWorld m
       (ap (λ (f : Fields). f.input) (sym same) ∙ (stay.input_registers ∙ ap (λ (f : Fields). f.input) is.registers_are))
       (ap (λ (f : Fields). f.output) (sym same) ∙ (stay.output_registers ∙ ap (λ (f : Fields). f.output) is.registers_are))
 
-  pub input_on : StandsFor old.input new after.input
-  input_on = subst (λ (s : StreamState). StandsFor old.input new s) (sym (step_leaves_streams taken world apart).input) (both old.input world.input is.input_stands)
+  pub input_on : TakesFor old.input.playing new after.input
+  input_on = subst (λ (s : StreamState). TakesFor old.input.playing new s) (sym (step_leaves_streams taken world apart).input) (both old.input.playing world.input is.input_stands)
 
   pub output_on : StandsFor old.output new after.output
   output_on = subst (λ (s : StreamState). StandsFor old.output new s) (sym (step_leaves_streams taken world apart).output) (both old.output world.output is.output_stands)
@@ -100,6 +106,7 @@ rirb_moved memory later old world new waiting count is new_is later_is count_is 
       waiting_is = ap (λ (b : List Response). drop (length b) world.waiting) written
           ∙ (ap (λ (n : ℕ). drop n world.waiting) (sym count_is) ∙ (ap (drop count) is.waiting_is ∙ sym waiting_is));
       frames_are = is.frames_are;
+      captured = record { given_is = is.captured.given_is; came_is = is.captured.came_is };
       input_stands = input_on memory old world is step.Rirb tt new registers;
       output_stands = output_on memory old world is step.Rirb tt new registers;
     }
@@ -116,7 +123,7 @@ module _ (memory : List ℕ) (old : DeviceState) (after : Playing) (new : Fields
   abbrev stream : Stream
   stream = output_of world
 
-  fetch_on : IsWorld memory old world → old.input.index ≡ 0 → after.index ≡ 1 → (out : Bool) → is_out_of_reset r.global ≡ out
+  fetch_on : IsWorld memory old world → old.input.playing.index ≡ 0 → after.index ≡ 1 → (out : Bool) → is_out_of_reset r.global ≡ out
       → LeadsTo after r new (if out then fetch most r.shape.fifo memory stream else stream)
       → IsWorld memory (record old { registers = new; output = after }) (if out then output_fetched most world else world)
   fetch_on is input_index index true out leads =
@@ -129,7 +136,8 @@ module _ (memory : List ℕ) (old : DeviceState) (after : Playing) (new : Fields
         codecs_are = is.codecs_are;
         waiting_is = is.waiting_is;
         frames_are = is.frames_are;
-        input_stands = beside_output old.input old.registers new world.input input_index is.input_stands
+        captured = record { given_is = is.captured.given_is; came_is = is.captured.came_is };
+        input_stands = beside_output old.input.playing old.registers new world.input input_index is.input_stands
             (ap (λ (f : Fields). f.shape) here ∙ ap (λ (f : Fields). f.shape) is.registers_are)
             (ap (λ (f : Fields). f.input) here ∙ ap (λ (f : Fields). f.input) is.registers_are);
         output_stands = subst (λ (s : Stream). StandsFor after new s.state) (sym there) leads.stands;
@@ -142,7 +150,8 @@ module _ (memory : List ℕ) (old : DeviceState) (after : Playing) (new : Fields
         codecs_are = is.codecs_are;
         waiting_is = is.waiting_is;
         frames_are = is.frames_are;
-        input_stands = subst (λ (f : Fields). StandsFor old.input f world.input) (sym (same ∙ is.registers_are)) is.input_stands;
+        captured = record { given_is = is.captured.given_is; came_is = is.captured.came_is };
+        input_stands = subst (λ (f : Fields). TakesFor old.input.playing f world.input) (sym (same ∙ is.registers_are)) is.input_stands;
         output_stands = leads.stands;
       }
 
@@ -158,7 +167,7 @@ step_by : (out : Bool) (most : ℕ) (world : World) → is_out_of_reset world.re
 step_by true most world is = rw is refl
 step_by false most world is = rw is refl
 
-pub fetch_moved : (memory : List ℕ) (old : DeviceState) (after : Playing) (new : Fields) (world : World) (most : ℕ) → IsWorld memory old world → old.input.index ≡ 0 → old.output.index ≡ 1
+pub fetch_moved : (memory : List ℕ) (old : DeviceState) (after : Playing) (new : Fields) (world : World) (most : ℕ) → IsWorld memory old world → old.input.playing.index ≡ 0 → old.output.index ≡ 1
     → after.index ≡ old.output.index → Fetches old.output after old.registers new most memory
     → IsWorld memory (record old { registers = new; output = after }) (fetch_step 1 most world)
 fetch_moved memory old after new world most is input_index output_index same fetches =
@@ -171,14 +180,14 @@ fetch_moved memory old after new world most is input_index output_index same fet
 pub fetch_still : (most : ℕ) (world : World) → is_out_of_reset world.registers.global ≡ false → (fetch_step 1 most world).registers ≡ world.registers
 fetch_still most world off = rw off refl
 
--- a stream that is not the output's does not move
-pub fetch_none : (memory : List ℕ) (old : DeviceState) (world : World) (index most : ℕ) → IsWorld memory old world → (index == 1) ≡ false → IsWorld memory old (fetch_step index most world)
-fetch_none memory old world index most is other =
-    subst (λ (t : Bool). IsWorld memory old (if t then output_fetched most world else world)) (sym (ap (λ (t : Bool). is_out_of_reset world.registers.global && t) other ∙ never (is_out_of_reset world.registers.global))) is
+-- the input stream stores, and in reset it does not run
+pub fetch_stores : (most : ℕ) (world : World) → (is_out_of_reset world.registers.global ≡ false → is_running world.registers.input ≡ false) → fetch_step 0 most world ≡ input_stored most world
+fetch_stores most world rests = by_out (is_out_of_reset world.registers.global) refl
   where
-    never : (out : Bool) → (out && false) ≡ false
-    never true = refl
-    never false = refl
+    by_out : (out : Bool) → is_out_of_reset world.registers.global ≡ out
+        → (if out && 0 == 1 then output_fetched most world else (if out && 0 == 0 then input_stored most world else world)) ≡ input_stored most world
+    by_out true is = refl
+    by_out false is = sym (ap (λ (storage : Storage). with_storage storage world) (store-stopped most (storage_of world) (rests is)))
 
 -- ---- CORB
 
@@ -210,10 +219,10 @@ handed_is memory old world word is next free =
     ap (λ (next : Option ℕ). handed_next next world) (next_same memory old world is ∙ next)
     ∙ ap (λ (t : Bool). if t then world else handed word world) (busy_same memory old world word is ∙ free)
 
-pub corb_handed : (memory : List ℕ) (old : DeviceState) (world : World) (word : ℕ) (new : Fields) (codecs : List CodecState) → IsWorld memory old world → next_word old.registers memory ≡ Some word
+pub corb_handed : (memory : List ℕ) (old : DeviceState) (world : World) (word : ℕ) (new : Fields) (codecs : List CodecState) (source : Source) → IsWorld memory old world → next_word old.registers memory ≡ Some word
     → is_busy (codec_at (address_of word) old.codecs) ≡ false → new ≡ after_corb old.registers → codecs ≡ with_codec (address_of word) (λ codec. taken codec word) old.codecs
-    → IsWorld memory (record old { registers = new; codecs = codecs }) (corb_step world)
-corb_handed memory old world word new codecs is next free new_is codecs_is =
+    → IsWorld memory (record old { registers = new; codecs = codecs; input = record old.input { source = source } }) (corb_step world)
+corb_handed memory old world word new codecs source is next free new_is codecs_is =
     let went : corb_step world ≡ handed word world = handed_is memory old world word is next free in
     let registers : (corb_step world).registers ≡ new =
     ap (λ (w : World). w.registers) went ∙ (ap fetched is.registers_are ∙ (sym (corb_fetched old.registers memory word next) ∙ sym new_is)) in
@@ -223,6 +232,10 @@ corb_handed memory old world word new codecs is next free new_is codecs_is =
       codecs_are = ap (λ (w : World). w.codecs) went ∙ (ap (with_codec (address_of word) (λ codec. taken codec word)) is.codecs_are ∙ sym codecs_is);
       waiting_is = ap (λ (w : World). w.waiting) went ∙ is.waiting_is;
       frames_are = subst (AreAlike old.frames) (sym (ap (λ (w : World). w.frames) went)) is.frames_are;
+      captured = record {
+        given_is = ap (λ (w : World). w.given) went ∙ is.captured.given_is;
+        came_is = is.captured.came_is ∙ sym (ap (λ (w : World). min (length w.came) most_came) went);
+      };
       input_stands = input_on memory old world is step.Corb tt new registers;
       output_stands = output_on memory old world is step.Corb tt new registers;
     }

@@ -1,21 +1,23 @@
 -- That the device goes where the world goes over a write of a register.
-use Rattle.std.proofs.Common.{◌≡◌, ◌||◌, ℕ, Bool, true, false, List, [], ◌∷◌, length, map, if◌then◌else◌, refl, sym, ap, subst, ◌∙◌, inl}
+use Rattle.std.proofs.Common.{◌≡◌, ◌||◌, ℕ, min, Bool, true, false, List, [], length, map, if◌then◌else◌, refl, sym, ap, subst, ◌∙◌, inl}
 use Rattle.std.specs.Prelude.{Vec}
 use Rattle.std.specs.Vec.{with_items}
 use Rattle.std.proofs.lemmas.List.{length-map, with_items_is}
 use Rattle.hda_registers.specs.declared.shapes.Width.{Width}
 use Rattle.hda_registers.specs.declared.shapes.Effects.{Effects}
 use Rattle.hda_registers.specs.Fields.{Fields}
-use Rattle.hda_registers.specs.Access.{written, effects_of}
+use Rattle.hda_registers.specs.Access.{written, effects_of, rose}
 use Rattle.codec_graph.specs.CodecStates.{CodecState, cleared}
 use Rattle.world_rings.specs.declared.response.Response.{Response}
 use Rattle.world_streams.specs.Streams.{StreamState, settled_state}
-use Rattle.stream_descriptor.specs.Running.{Playing, StandsFor}
-use Rattle.stream_descriptor.proofs.Callers.{Settled}
+use Rattle.stream_descriptor.specs.Running.{Playing, StandsFor, taken_bytes}
+use Rattle.stream_descriptor.specs.Taking.{TakesFor}
+use Rattle.stream_descriptor.proofs.Callers.{SettledBy}
 use Rattle.hda_world.specs.Worlds.{World}
-use Rattle.hda_world.specs.Events.{reset_if, counted_anew_if, registers_written, streams_settled, after_write}
+use Rattle.hda_world.specs.Events.{reset_if, counted_anew_if, registers_written, streams_settled, settled_came, after_write}
 use Rattle.hda_world.proofs.Callers.{write_memory, write_registers, write_states, map-cleared}
 use Rattle.device_core.specs.Codecs.{KeepCodecs, addresses_of}
+use Rattle.device_core.specs.Captures.{CaptureState, most_came}
 use Rattle.device_core.specs.Devices.{DeviceState, AreAlike, IsWorld}
 
 -- ---- what waits
@@ -28,6 +30,19 @@ write_queues true true world = (refl, refl, refl)
 write_queues true false world = (refl, refl, refl)
 write_queues false true world = (refl, refl, refl)
 write_queues false false world = (refl, refl, refl)
+
+-- they change no sound, and nothing of what came
+write_sound : (reset left : Bool) (world : World) → let after : World = counted_anew_if left (reset_if reset world) in (after.given ≡ world.given) × (after.came ≡ world.came)
+write_sound true true world = (refl, refl)
+write_sound true false world = (refl, refl)
+write_sound false true world = (refl, refl)
+write_sound false false world = (refl, refl)
+
+-- as many blocks came: none where RUN rose
+came_anew : (rises : Bool) (count : ℕ) (came : List Bool) → count ≡ min (length came) most_came
+    → (if rises then 0 else count) ≡ min (length (if rises then [] else came)) most_came
+came_anew true count came is = refl
+came_anew false count came is = is
 
 anew_alike : (anew : Bool) (first second : ℕ) → AreAlike first second → AreAlike (if anew then 0 else first) (if anew then 0 else second)
 anew_alike true first second alike = inl refl
@@ -73,12 +88,20 @@ module _ (memory : List ℕ) (before : DeviceState) (world : World) (is : IsWorl
         here.2 ∙ ap (λ (e : Effects). if e.reset || e.left_reset then 0 else world.frames) effects_same,
       )
 
-  pub write_moved : (new second : Fields) (codecs : List CodecState) (waiting : List Response) (frames : ℕ) (input output : Playing) → new ≡ written before.registers at width value
-      → Settled before.registers new second input output world.input world.output
+  sound_left : (after.given ≡ before.input.given) × (after.came ≡ settled_came before.registers.input (written before.registers at width value).input world.came)
+  sound_left =
+      let here = write_sound (effects_of world.registers at width value).reset (effects_of world.registers at width value).left_reset (registers_written (written world.registers at width value) world) in (
+        here.0 ∙ is.captured.given_is,
+        here.1 ∙ ap (λ (f : Fields). settled_came f.input (written f at width value).input world.came) is.registers_are,
+      )
+
+  pub write_moved : (new second : Fields) (codecs : List CodecState) (waiting : List Response) (frames : ℕ) (input : CaptureState) (output : Playing) → new ≡ written before.registers at width value
+      → SettledBy taken_bytes before.registers new second input.playing output world.input world.output
+      → input.given ≡ before.input.given → input.came ≡ (if rose before.registers.input new.input then 0 else before.input.came)
       → codecs ≡ (if effects.reset then map cleared before.codecs else before.codecs) → waiting ≡ (if effects.reset then [] else before.waiting)
       → frames ≡ (if effects.reset || effects.left_reset then 0 else before.frames)
       → IsWorld memory (record { registers = second; codecs = codecs; waiting = waiting; frames = frames; input = input; output = output }) after
-  write_moved new second codecs waiting frames input output new_is done codecs_is waiting_is frames_is =
+  write_moved new second codecs waiting frames input output new_is done given_is came_is codecs_is waiting_is frames_is =
       let states = write_states world at value width in
       record {
         memory_is = write_memory world at value width ∙ is.memory_is;
@@ -87,7 +110,12 @@ module _ (memory : List ℕ) (before : DeviceState) (world : World) (is : IsWorl
         waiting_is = queues.1 ∙ sym waiting_is;
         frames_are = subst (λ (n : ℕ). AreAlike n after.frames) (sym frames_is)
             (subst (AreAlike (if effects.reset || effects.left_reset then 0 else before.frames)) (sym queues.2) (anew_alike (effects.reset || effects.left_reset) before.frames world.frames is.frames_are));
-        input_stands = subst (λ (state : StreamState). StandsFor input second state)
+        captured = record {
+          given_is = sound_left.0 ∙ sym given_is;
+          came_is = came_is ∙ (came_anew (rose before.registers.input new.input) before.input.came world.came is.captured.came_is
+              ∙ sym (ap (λ (came : List Bool). min (length came) most_came) (sound_left.1 ∙ ap (λ (f : Fields). settled_came before.registers.input f.input world.came) (sym new_is))));
+        };
+        input_stands = subst (λ (state : StreamState). TakesFor input.playing second state)
             (sym (states.0 ∙ (ap (λ (f : Fields). settled_state f.input (written f at width value).input world.input) is.registers_are ∙ ap (λ (f : Fields). settled_state before.registers.input f.input world.input) (sym new_is))))
             done.input_stands;
         output_stands = subst (λ (state : StreamState). StandsFor output second state)

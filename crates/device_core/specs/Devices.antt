@@ -7,9 +7,11 @@ use Rattle.world_rings.specs.declared.response.Response.{Response}
 use Rattle.world_rings.specs.declared.response.TheConstants.{MOST_WAITING}
 use Rattle.world_streams.specs.Streams.{begun}
 use Rattle.stream_descriptor.specs.Running.{Playing, StandsFor}
+use Rattle.stream_descriptor.specs.Taking.{TakesFor}
 use Rattle.hda_world.specs.declared.step.TheConstants.{FRAMES_TO_DISCOVERY}
 use Rattle.hda_world.specs.Worlds.{World}
 use Rattle.hda_world.specs.Steps.{discovered_at}
+use Rattle.device_core.specs.Captures.{CaptureState, HasCapture}
 
 pub record DeviceState : Type 0 where
   pub registers : Fields
@@ -18,8 +20,8 @@ pub record DeviceState : Type 0 where
   pub waiting : List Response
   -- the link frames since CRST rose, counted up to that of the discovery at least
   pub frames : ℕ
-  -- the streams of descriptor 0 and of descriptor 1
-  pub input : Playing
+  -- what comes in to the stream of descriptor 0, and the stream of descriptor 1
+  pub input : CaptureState
   pub output : Playing
 
 -- counts of link frames that no later discovery tells apart: the same, or both of them at or past it
@@ -33,7 +35,8 @@ pub record IsWorld (memory : List ℕ) (device : DeviceState) (world : World) : 
   pub codecs_are : world.codecs ≡ device.codecs
   pub waiting_is : world.waiting ≡ device.waiting
   pub frames_are : AreAlike device.frames world.frames
-  pub input_stands : StandsFor device.input device.registers world.input
+  pub captured : HasCapture device.input world
+  pub input_stands : TakesFor device.input.playing device.registers world.input
   pub output_stands : StandsFor device.output device.registers world.output
 
 -- a world in which nothing waits and nothing streams: a controller of this shape in reset, with these codecs

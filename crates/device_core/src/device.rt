@@ -1,5 +1,6 @@
 //! The device.
-ghost use Rattle.std.specs.Prelude.{◌≡◌, ◌≤◌, ◌<◌, ◌==◌, ◌++◌, ◌||◌, ℕ, List, [], All, IfOk, IfSome, false, length};
+ghost use Rattle.std.specs.Prelude.{◌≡◌, ◌≤◌, ◌<◌, ◌+◌, ◌==◌, ◌++◌, ◌||◌, ℕ, List, [], All, IfOk, IfSome, false};
+ghost use Rattle.std.specs.Prelude.{length};
 ghost use Rattle.std.specs.Prelude.{if◌then◌else◌};
 ghost use Rattle.codec_graph.specs.CodecStates as states;
 ghost use Rattle.codec_graph.specs.declared.waiting.Waiting.{Waiting};
@@ -7,16 +8,18 @@ ghost use Rattle.codec_nodes.specs.Queues as queues;
 ghost use Rattle.world_rings.specs.declared.response.TheConstants.{MOST_WAITING};
 ghost use Rattle.hda_registers.specs.Access.{value_at};
 ghost use Rattle.hda_registers.specs.Fields.{opening};
-ghost use Rattle.hda_world.specs.Worlds.{World, with_codec, output_of};
+ghost use Rattle.hda_world.specs.Worlds.{World, with_codec, output_of, given_sound};
 ghost use Rattle.hda_world.specs.Steps as steps;
 ghost use Rattle.hda_world.specs.Events.{after_write};
 ghost use Rattle.stream_descriptor.specs.Running.{found_at};
+ghost use Rattle.stream_descriptor.specs.Taking.{marks_in};
 ghost use Rattle.stream_descriptor.specs.Frames.{IsAnswer};
 ghost use Rattle.device_core.specs.Codecs as spec;
 ghost use Rattle.device_core.specs.Sound.{touches_sound};
 ghost use Rattle.device_core.specs.Devices.{IsWorld, new_world, KeepsSound, can_receive_now, counted_on};
 ghost use Rattle.device_core.specs.Devices.{discovered_next, is_counted as is_counted_now};
 
+use crate::capture::Capture;
 use crate::codecs::{self, Handed};
 use codec_nodes::Codec;
 use command_rings::Rings;
@@ -24,7 +27,16 @@ use hda_registers::{Registers, Shape, Width};
 use hda_world::FRAMES_TO_DISCOVERY;
 use std::alloc::{AllocError, Global};
 use std::marker::Model;
-use stream_descriptor::{Frame, MOST_FRAME_BYTES, Stream};
+use stream_descriptor::{Arrived, Frame, MOST_FRAME_BYTES, Stream};
+
+/// What a link frame carried.
+#[derive(Clone, Copy, Debug, PartialEq, Eq)]
+pub struct LinkFrame {
+    /// Of the output stream.
+    pub sent: Frame,
+    /// To the input stream: what became of the blocks that came.
+    pub came: Arrived,
+}
 
 /// A controller with its codecs: its registers, the engines of CORB and RIRB, an input and an output stream, and the
 /// codecs on its link. Contracts see a `DeviceState`, and of each call the move of the world (this project's own) that
@@ -35,7 +47,7 @@ pub struct Device {
     codecs: Vec<Codec>,
     rings: Rings,
     frames: u32,
-    input: Stream,
+    input: Capture,
     output: Stream,
 }
 
@@ -82,7 +94,7 @@ impl Device {
             codecs,
             rings: Rings::new(alloc)?,
             frames: 0,
-            input: Stream::new(alloc, 0, shape.fifo)?,
+            input: Capture::new(alloc, shape.fifo)?,
             output: Stream::new(alloc, 1, shape.fifo)?,
         })
     }
@@ -115,6 +127,24 @@ impl Device {
         ensures { (memory : List ℕ) → (world : World) × IsWorld memory self.now world }
     {
         let _registers = &self.registers;
+    }
+
+    /// Gives all input pins this sound, whose blocks come to the input stream while it runs. This project's own.
+    pub fn give(&mut self, sound: Vec<u8>)
+        ensures stands { (memory : List ℕ) (world : World) → IsWorld memory self.old world
+            → IsWorld memory self.new (given_sound sound.items world) }
+        ensures registers { self.new.registers ≡ self.old.registers }
+        ensures codecs { self.new.codecs ≡ self.old.codecs }
+        ensures given { self.new.input.given ≡ sound.items }
+    {
+        self.input.give(sound);
+    }
+
+    /// How many blocks came to the input stream since its RUN rose. At 2^64 - 1 the count stays.
+    pub fn came(&self) -> u64
+        ensures { result ≡ self.now.input.came }
+    {
+        self.input.came()
     }
 
     /// Writes a register (HDA 1.0a, 3.3). The streams whose RUN rose or fell begin anew or stop. Where CRST was written
@@ -157,6 +187,7 @@ impl Device {
             return None;
         }
         let _word = self.rings.corb(&mut self.registers, memory);
+        self.input.forget();
         codecs::hand(self.codecs.as_mut_slice(), word)
     }
 
@@ -212,35 +243,69 @@ impl Device {
         let _written = self.rings.rirb(&mut self.registers, memory);
     }
 
-    /// Lets a link frame pass (HDA 1.0a, 4.3, 4.5 and 5.3): the wall clock goes on, in the frame of number
-    /// `FRAMES_TO_DISCOVERY` after CRST rose the codecs' bits of STATESTS are set, and the output stream sends the
-    /// blocks that are due, which then stand at the front of `into`. Nothing happens while CRST is 0. Says what the
-    /// frame carried.
-    pub fn frame(&mut self, into: &mut [u8; MOST_FRAME_BYTES]) -> Frame
+    /// Lets a link frame pass (HDA 1.0a, 4.3, 4.5, 5.3 and 5.4): the wall clock goes on, in the frame of number
+    /// `FRAMES_TO_DISCOVERY` after CRST rose the codecs' bits of STATESTS are set, the output stream sends the blocks
+    /// that are due, which then stand at the front of `into`, and the input stream has those that come to it. Nothing
+    /// happens while CRST is 0. Says what the frame carried.
+    pub fn frame(&mut self, into: &mut [u8; MOST_FRAME_BYTES]) -> LinkFrame
         ensures stands { (memory : List ℕ) (world : World) → IsWorld memory self.old world
             → IsWorld memory self.new (steps.frame_step world) }
         ensures answer { (memory : List ℕ) (world : World) → IsWorld memory self.old world
-            → IsAnswer (output_of world) (found_at 1 world.registers world.output) into.old into.new result }
+            → IsAnswer (output_of world) (found_at 1 world.registers world.output) into.old into.new result.sent }
+        ensures came { (memory : List ℕ) (world : World) → IsWorld memory self.old world
+            → (steps.frame_step world).came ≡ world.came ++ marks_in result.came }
+        ensures few { result.came.taken + result.came.dropped ≤ 4 }
         ensures codecs { self.new.codecs ≡ self.old.codecs }
         ensures sound { KeepsSound self.old.registers self.new.registers }
     {
         self.registers.frame();
         self.frames = count_frame(self.frames, self.codecs.as_slice(), &mut self.registers);
-        self.output.frame(&mut self.registers, into)
+        let sent = self.output.frame(&mut self.registers, into);
+        let came = self.hear();
+        LinkFrame { sent, came }
     }
 
-    /// A stream fetches at most so many bytes of its buffers: the output stream, of descriptor 1. That of descriptor 0
-    /// does not move (HDA 1.0a, 4.5).
-    pub fn fetch(&mut self, memory: &[u8], stream: u8, most: u16)
-        ensures stands { (world : World) → IsWorld memory.now self.old world
-            → IsWorld memory.now self.new (steps.fetch_step stream most world) }
+    /// A stream moves at most so many bytes (HDA 1.0a, 4.5): the output stream, 1, fetches them of its buffers, and the
+    /// input stream, 0, stores them in its own.
+    pub fn fetch(&mut self, memory: &mut [u8], stream: u8, most: u16)
+        ensures stands { (world : World) → IsWorld memory.old self.old world
+            → IsWorld memory.new self.new (steps.fetch_step stream most world) }
         ensures codecs { self.new.codecs ≡ self.old.codecs }
         ensures sound { KeepsSound self.old.registers self.new.registers }
     {
-        if stream == 1 {
-            self.output
-                .fetch(&mut self.registers, memory, u32::from(most));
+        match stream {
+            0 => self.store(memory, most),
+            1 => self
+                .output
+                .fetch(&mut self.registers, memory, u32::from(most)),
+            _ => {}
         }
+    }
+
+    /// Lets the input stream have the blocks that are due in a link frame: the next ones of the given sound where the
+    /// one input converter that takes the stream hears a pin, and else silence. No block comes where no converter takes
+    /// the stream or several do, nor where the stream does not run. Says what became of them.
+    fn hear(&mut self) -> Arrived
+        ensures stands { (memory : List ℕ) (world : World) → IsWorld memory self.old world
+            → IsWorld memory self.new (steps.input_framed world) }
+        ensures came { (memory : List ℕ) (world : World) → IsWorld memory self.old world
+            → (steps.input_framed world).came ≡ world.came ++ marks_in result }
+        ensures few { result.taken + result.dropped ≤ 4 }
+        ensures codecs { self.new.codecs ≡ self.old.codecs }
+        ensures sound { KeepsSound self.old.registers self.new.registers }
+    {
+        self.input.hear(&mut self.registers, self.codecs.as_slice())
+    }
+
+    /// The input stream stores at most so many bytes of its FIFO in the list's buffers.
+    fn store(&mut self, memory: &mut [u8], most: u16)
+        ensures stands { (world : World) → IsWorld memory.old self.old world
+            → IsWorld memory.new self.new (steps.fetch_step 0 most world) }
+        ensures codecs { self.new.codecs ≡ self.old.codecs }
+        ensures sound { KeepsSound self.old.registers self.new.registers }
+    {
+        self.input
+            .store(&mut self.registers, memory, u32::from(most));
     }
 }
 

@@ -1,6 +1,7 @@
 -- What is told of a call, from where the engine stood to the world.
 use Rattle.std.proofs.Common.{◌≡◌, ◌*◌, ℕ, List, [], ◌∷◌, ◌++◌, Bool, true, false, if◌then◌else◌, Option, Some, None, refl, sym, ap, subst, ◌∙◌, arith, inl, inr, length, ◌⊎◌}
-use Rattle.std.specs.Prelude.{nat_le, ◌+◌, map, drop}
+use Rattle.std.specs.Prelude.{nat_le, ◌+◌, map, drop, All}
+use Rattle.std.proofs.lemmas.List.Elements.{All-nil, All-cons, All-head, All-tail}
 use Rattle.verb_codes.specs.Words.{has_bit, bits_of}
 use Rattle.hda_registers.specs.declared.shapes.Width.TheVariants.{One, Four}
 use Rattle.hda_registers.specs.declared.places.TheConstants.{INTSTS}
@@ -13,12 +14,13 @@ use Rattle.command_engine.specs.declared.answers.Outstanding.{Outstanding}
 use Rattle.command_engine.specs.declared.answers.Poll.TheVariants as polls
 use Rattle.command_engine.specs.declared.ring_places.RingPlaces.{RingPlaces}
 use Rattle.command_engine.specs.Belonging.{Belongs, as_held, from_after}
-use Rattle.command_engine.specs.Fetchings.{Stands, AreBeside}
+use Rattle.command_engine.specs.Apart.{IsBesideBoth}
+use Rattle.command_engine.specs.Fetchings.{Stands}
 use Rattle.command_engine.specs.Entries.{answer_among}
 use Rattle.command_engine.specs.Polling.{PollReads, AreNew, asked_of, poll_of, found_by, answer_limit, rings_polled}
 use Rattle.command_engine.specs.Told.{PollTellsOf, found_since}
 use Rattle.command_engine.specs.Told as submitted
-use Rattle.command_engine.proofs.Callers.{responses_apart, keeps_standing, event_keeps}
+use Rattle.command_engine.proofs.Callers.{responses_apart, keeps_standing, event_beside_input_keeps}
 use Rattle.driver_progress.specs.declared.registers.TheConstants.{STREAM_STATUS}
 use Rattle.driver_progress.specs.Tasks.{Order}
 use Rattle.driver_progress.specs.Noting.{ArePlain}
@@ -123,23 +125,27 @@ end_looks old new clock reads polled events before middle after fresh polled_is 
 
 -- ---- interrupts
 
--- a row of accesses beside the engine keeps it
-row_stands : (from read corb rirb : ℕ) (rings : RingPlaces) (made : List Event) (old new : Telling) → AreBeside corb rirb made → MakesBy made old new → Stands from read corb rirb rings (world_of old) → Stands from read corb rirb rings (world_of new)
+-- a row of accesses that leave memory and the input stream keeps it
+row_stands : (from read corb rirb : ℕ) (rings : RingPlaces) (made : List Event) (old new : Telling) → All IsBesideBoth made → MakesBy made old new → Stands from read corb rirb rings (world_of old) → Stands from read corb rirb rings (world_of new)
 row_stands from read corb rirb rings [] old new beside none stands = subst (λ (new : Telling). Stands from read corb rirb rings (world_of new)) (sym none) stands
 row_stands from read corb rirb rings (event ∷ made) old new beside makes stands =
-    row_stands from read corb rirb rings made makes.0 new beside.1 makes.2
+    row_stands from read corb rirb rings made makes.0 new (All-tail IsBesideBoth event made beside) makes.2
     (accessed_then (Stands from read corb rirb rings) (Stands from read corb rirb rings) event (keeps_standing from read corb rirb rings responses_apart)
-    (λ world there honest. event_keeps from read corb rirb rings responses_apart event world beside.0 there) old makes.0 makes.1 stands)
+    (λ world there honest. event_beside_input_keeps from read corb rirb rings responses_apart event world (All-head IsBesideBoth event made beside) there) old makes.0 makes.1 stands)
 
-interrupts_beside : (on clears : Bool) (corb rirb interrupts stream : ℕ)
-    → AreBeside corb rirb (Read INTSTS Four interrupts ∷ (if on then (if clears then Read STREAM_STATUS One stream ∷ Write STREAM_STATUS One (4 * bits_of stream 2 3) ∷ [] else []) else []))
-interrupts_beside true true corb rirb interrupts stream = (tt {0}, (tt {0}, (record { control = inr (omega arith); rings = inr (omega arith) }, tt {0})))
-interrupts_beside true false corb rirb interrupts stream = (tt {0}, tt {0})
-interrupts_beside false clears corb rirb interrupts stream = (tt {0}, tt {0})
+interrupts_beside : (on clears : Bool) (interrupts stream : ℕ)
+    → All IsBesideBoth (Read INTSTS Four interrupts ∷ (if on then (if clears then Read STREAM_STATUS One stream ∷ Write STREAM_STATUS One (4 * bits_of stream 2 3) ∷ [] else []) else []))
+interrupts_beside true true interrupts stream =
+    let beside : IsBesideBoth (Write STREAM_STATUS One (4 * bits_of stream 2 3)) = (record { control = inr (omega arith); rings = inr (omega arith) }, record { control = omega arith; descriptor = inr (omega arith) }) in
+    All-cons IsBesideBoth (Read INTSTS Four interrupts) (Read STREAM_STATUS One stream ∷ Write STREAM_STATUS One (4 * bits_of stream 2 3) ∷ []) (tt {0})
+    (All-cons IsBesideBoth (Read STREAM_STATUS One stream) (Write STREAM_STATUS One (4 * bits_of stream 2 3) ∷ []) (tt {0})
+    (All-cons IsBesideBoth (Write STREAM_STATUS One (4 * bits_of stream 2 3)) [] beside (All-nil IsBesideBoth)))
+interrupts_beside true false interrupts stream = All-cons IsBesideBoth (Read INTSTS Four interrupts) [] (tt {0}) (All-nil IsBesideBoth)
+interrupts_beside false clears interrupts stream = All-cons IsBesideBoth (Read INTSTS Four interrupts) [] (tt {0}) (All-nil IsBesideBoth)
 
 interrupts_stand : (from read corb rirb : ℕ) (rings : RingPlaces) (interrupts stream : ℕ) (old new : Telling) → Makes (interrupt_accesses interrupts stream) old new → Stands from read corb rirb rings (world_of old) → Stands from read corb rirb rings (world_of new)
 interrupts_stand from read corb rirb rings interrupts stream old new makes stands =
-    row_stands from read corb rirb rings (interrupt_accesses interrupts stream) old new (interrupts_beside (has_bit interrupts 31) (has_bit interrupts 1) corb rirb interrupts stream) makes.by stands
+    row_stands from read corb rirb rings (interrupt_accesses interrupts stream) old new (interrupts_beside (has_bit interrupts 31) (has_bit interrupts 1) interrupts stream) makes.by stands
 
 interrupts_plain : (on clears : Bool) (interrupts stream : ℕ)
     → ArePlain (Read INTSTS Four interrupts ∷ (if on then (if clears then Read STREAM_STATUS One stream ∷ Write STREAM_STATUS One (4 * bits_of stream 2 3) ∷ [] else []) else []))

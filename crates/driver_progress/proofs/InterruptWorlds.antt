@@ -14,6 +14,8 @@ use Rattle.hda_world.specs.Events.{Read, Write, after_write, registers_written}
 use Rattle.hda_world.specs.Tellings.{Telling, world_of, MakesBy, Makes}
 use Rattle.hda_world.specs.Discovery.{addresses_of, AreSet}
 use Rattle.hda_world.proofs.Callers.{beside_write}
+use Rattle.command_engine.specs.Apart.{InputIsApart}
+use Rattle.command_engine.proofs.Callers.{write_apart}
 use Rattle.driver_progress.specs.declared.registers.TheConstants.{STREAM_STATUS}
 use Rattle.driver_progress.specs.Beginning.{AreOnly, CanReset, IsSettling}
 use Rattle.driver_progress.specs.Interrupts.{interrupt_accesses}
@@ -55,6 +57,7 @@ settling_written corb rirb value world is =
           blocks = quiet.blocks;
           ascend = quiet.ascend;
           nothing_comes = quiet.nothing_comes;
+          apart = subst (InputIsApart corb rirb) (sym (status_written value world)) (write_apart corb rirb world STREAM_STATUS value One (omega arith) (inr (omega arith)) quiet.apart);
         };
         out = sym (ap (λ (global : Global). is_out_of_reset global) same) ∙ is.can_start.out;
       };

@@ -15,7 +15,7 @@ use Rattle.hda_world.specs.Steps.{passed}
 use Rattle.hda_world.specs.Events.{Event, Stepped, Read, Write, DmaRead, happens, after}
 use Rattle.hda_world.specs.Tellings.{Telling, world_of, Accessed, MakesBy, Makes}
 use Rattle.hda_world.specs.Kept.{Kept}
-use Rattle.hda_world.proofs.Callers.{accessed_then, frames_after, passed_global, access_leaves, world_of-went}
+use Rattle.hda_world.proofs.Callers.{accessed_then, frames_after, passed_global, access_leaves, world_of-went, by_moves}
 use Rattle.command_engine.specs.declared.ring_places.RingPlaces.{RingPlaces}
 use Rattle.command_engine.specs.Entries.{answers_it}
 use Rattle.command_engine.specs.Polling.{PollReads, asked_of, entry_reads, batch_accesses, poll_accesses}
@@ -47,6 +47,7 @@ keeps_bit = record {
     breaks = λ world holds can room bad. holds;
     refuses = λ world holds must. holds;
   };
+  input = by_moves IsBit (λ world change holds moves. holds);
   passes = λ world holds out still. subst (λ (flag : ℕ). flag ≤ 1) (sym (flag_passed world)) holds;
   frames = frames_after IsBit (λ world holds out. subst (λ (flag : ℕ). flag ≤ 1) (sym (flag_passed world)) holds) (record {
     gaps = λ world holds can none. holds;
@@ -83,6 +84,7 @@ keeps_flagged written = record {
     breaks = λ world holds can room bad. record { flag = holds.flag; same = holds.same };
     refuses = λ world holds must. record { flag = holds.flag; same = holds.same };
   };
+  input = by_moves (IsFlagged written) (λ world change holds moves. record { flag = holds.flag; same = holds.same });
   passes = λ world holds out still. record { flag = flag_passed world ∙ holds.flag; same = holds.same };
   frames = frames_after (IsFlagged written) (λ world holds out. record { flag = flag_passed world ∙ holds.flag; same = holds.same }) (record {
     gaps = λ world holds can none. record { flag = holds.flag; same = holds.same };

@@ -19,7 +19,7 @@ use Rattle.hda_world.specs.Worlds.{World, with_codec}
 use Rattle.hda_world.specs.Steps.{discovered, passed}
 use Rattle.hda_world.specs.Kept.{Kept}
 use Rattle.hda_world.specs.Discovery.{addresses_of}
-use Rattle.hda_world.proofs.Callers.{frames_after, passed_global, graphs-with_codec, addresses-with_codec}
+use Rattle.hda_world.proofs.Callers.{frames_after, passed_global, graphs-with_codec, addresses-with_codec, by_moves}
 use Rattle.driver_progress.specs.Beginning.{AreOnly, HasOnly, KeepsTime}
 
 -- addresses are those of the graphs
@@ -63,6 +63,7 @@ keeps_time = record {
     breaks = λ world holds can room bad. holds;
     refuses = λ world holds must. holds;
   };
+  input = by_moves KeepsTime (λ world change holds moves. holds);
   passes = λ world holds out still. time_passes world holds out;
   frames = frames_after KeepsTime time_passes (record {
     gaps = λ world holds can none. holds;
@@ -124,6 +125,7 @@ keeps_only = record {
     breaks = λ world holds can room bad. holds;
     refuses = λ world holds must. holds;
   };
+  input = by_moves HasOnly (λ world change holds moves. holds);
   passes = λ world holds out still. only_passes world holds out;
   frames = frames_after HasOnly only_passes (record {
     gaps = λ world holds can none. holds;
@@ -168,6 +170,7 @@ keeps_held = record {
     breaks = λ world holds can room bad. absurd (not_held world holds can.out);
     refuses = λ world holds must. absurd (not_held world holds must.out);
   };
+  input = by_moves IsHeld (λ world change holds moves. held_on world _ (refl, refl) holds);
   passes = λ world holds out still. absurd (not_held world holds out);
   frames = record {
     gaps = λ world holds can none. absurd (not_held world holds can.out);

@@ -7,7 +7,7 @@ use Rattle.world_steps.specs.declared.Step.{Step}
 use Rattle.hda_world.specs.Worlds.{World, TakenCommand}
 use Rattle.hda_world.specs.Steps.{passed, after_steps}
 use Rattle.hda_world.specs.Kept.{Kept}
-use Rattle.hda_world.proofs.Callers.{frames_after, passed_global, kept_steps}
+use Rattle.hda_world.proofs.Callers.{frames_after, passed_global, kept_steps, by_moves}
 use Rattle.driver_progress.specs.Beginning.{IsUntaken}
 
 run_after : (responses : List Response) (fields : Fields) → (after_responses fields responses).global.corb_run ≡ fields.global.corb_run
@@ -39,6 +39,7 @@ keeps_untaken commands = record {
     breaks = λ world holds can room bad. record { stopped = holds.stopped; commands_are = holds.commands_are };
     refuses = λ world holds must. record { stopped = holds.stopped; commands_are = holds.commands_are };
   };
+  input = by_moves (IsUntaken commands) (λ world change holds moves. record { stopped = holds.stopped; commands_are = holds.commands_are });
   passes = λ world holds out still. record { stopped = run_passed world ∙ holds.stopped; commands_are = holds.commands_are };
   frames = frames_after (IsUntaken commands) (λ world holds out. record { stopped = run_passed world ∙ holds.stopped; commands_are = holds.commands_are }) (record {
     gaps = λ world holds can none. record { stopped = holds.stopped; commands_are = holds.commands_are };

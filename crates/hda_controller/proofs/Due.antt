@@ -5,8 +5,6 @@ use Rattle.std.specs.Option.{unwrap_or}
 use Rattle.std.proofs.Math.Nat.{mul-div_cancel}
 use Rattle.std.proofs.lemmas.List.{length-take-le}
 use Rattle.codec_graph.specs.CodecStates.{CodecState}
-use Rattle.stream_format.specs.declared.format.Rate.{Rate}
-use Rattle.stream_format.specs.declared.format.Rate.TheVariants.{R8, R16, R44, R48, R96, R192}
 use Rattle.stream_format.specs.declared.format.Format.{Format}
 use Rattle.stream_format.specs.Cadence.{blocks_of, most_blocks, block_bytes}
 use Rattle.stream_format.specs.Layouts.{Layout, layout, layout_of}
@@ -15,7 +13,6 @@ use Rattle.world_streams.proofs.Callers.{few_bytes, some_block, few_blocks}
 use Rattle.codec_sound.specs.Signals.{IsAmong}
 use Rattle.heard_frames.specs.HeardLists.{signal_with_as}
 use Rattle.codec_sound.proofs.Callers.{among-signal_of}
-use Rattle.heard_lists.specs.Listings.{Listing, HasRoom}
 use Rattle.hda_controller.specs.Hearing.{AreDue}
 use Rattle.hda_controller.specs.Unheard.{AreWhole, block_count}
 

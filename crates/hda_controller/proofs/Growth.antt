@@ -24,7 +24,7 @@ use Rattle.device_core.specs.Devices.{DeviceState, KeepsSound}
 use Rattle.heard_lists.specs.Listings.{Listing, grown_as, with_blocks}
 use Rattle.heard_lists.proofs.Callers.{grown-append, grown-none, blocks-grow}
 use Rattle.hda_controller.specs.Controllers.{signal_now}
-use Rattle.hda_controller.specs.Hearing.{AreDue, GrewAs}
+use Rattle.hda_controller.specs.Hearing.{AreDue, CameAs, GrewAs}
 
 -- ---- worlds in turn
 
@@ -37,6 +37,17 @@ grew_on kind before middle after old between new first second = record {
   added = first.added ++ second.added;
   carried = second.carried ∙ (ap (λ (frames : List CarriedFrame). frames ++ second.added) first.carried ∙ append_assoc before.carried first.added second.added);
   lists = second.lists ∙ (ap (grown_as kind second.added) first.lists ∙ grown-append kind first.added second.added old);
+}
+
+-- no block came
+pub came_still : (before after : World) (marks : List Bool) → after.came ≡ before.came → CameAs before after marks marks
+came_still before after marks stays = record { added = []; came = stays ∙ sym (append-nil before.came); marks = sym (append-nil marks) }
+
+pub came_on : (before middle after : World) (old between new : List Bool) → CameAs before middle old between → CameAs middle after between new → CameAs before after old new
+came_on before middle after old between new first second = record {
+  added = first.added ++ second.added;
+  came = second.came ∙ (ap (λ (marks : List Bool). marks ++ second.added) first.came ∙ append_assoc before.came first.added second.added);
+  marks = second.marks ∙ (ap (λ (marks : List Bool). marks ++ second.added) first.marks ∙ append_assoc old first.added second.added);
 }
 
 -- a move more
@@ -53,7 +64,7 @@ module _ (kind : PinKind) (world : World) where
   abbrev found : output.Frame
   found = found_at 1 world.registers world.output
 
-  carried_when : (out : Bool) → (if out then output_framed (frame_of (output_of world)) (passed world) else world).carried
+  carried_when : (out : Bool) → (if out then steps.input_framed (output_framed (frame_of (output_of world)) (passed world)) else world).carried
       ≡ world.carried ++ map (frame_carried world) (carried_by (if out then frame_of (stream_at 1 world.registers world.output) else output.Stopped) (output_of world))
   carried_when true = refl
   carried_when false = sym (append-nil world.carried)
@@ -182,9 +193,49 @@ lose_when world address false = refl
 pub lose_carries : (address : ℕ) (world : World) → (steps.lose_step address world).carried ≡ world.carried
 lose_carries address world = lose_when world address (is_out_of_reset world.registers.global)
 
-fetch_when : (world : World) (most : ℕ) (moves : Bool) → (if moves then steps.output_fetched most world else world).carried ≡ world.carried
-fetch_when world most true = refl
-fetch_when world most false = refl
+fetch_when : (world : World) (most : ℕ) (fetches stores : Bool) → (if fetches then steps.output_fetched most world else (if stores then steps.input_stored most world else world)).carried ≡ world.carried
+fetch_when world most true stores = refl
+fetch_when world most false true = refl
+fetch_when world most false false = refl
 
 pub fetch_carries : (stream most : ℕ) (world : World) → (steps.fetch_step stream most world).carried ≡ world.carried
-fetch_carries stream most world = fetch_when world most _
+fetch_carries stream most world = fetch_when world most _ _
+
+-- ---- steps in which no block comes
+
+corb_busy_brings : (world : World) (word : ℕ) (busy : Bool) → (if busy then world else steps.handed word world).came ≡ world.came
+corb_busy_brings world word true = refl
+corb_busy_brings world word false = refl
+
+corb_next_brings : (world : World) (next : Option ℕ) → (steps.handed_next next world).came ≡ world.came
+corb_next_brings world None = refl
+corb_next_brings world (Some word) = corb_busy_brings world word (is_busy (codec_at (address_of word) world.codecs))
+
+pub corb_brings : (world : World) → (steps.corb_step world).came ≡ world.came
+corb_brings world = corb_next_brings world (next_word world.registers world.memory)
+
+answer_first_brings : (world : World) (address : ℕ) (waiting : List Waiting) → (steps.sent_first address waiting world).came ≡ world.came
+answer_first_brings world address [] = refl
+answer_first_brings world address (item ∷ rest) = refl
+
+answer_when_brings : (world : World) (address : ℕ) (can : Bool) → (if can then steps.sent_first address (waiting_of (codec_at address world.codecs)) world else world).came ≡ world.came
+answer_when_brings world address true = answer_first_brings world address (waiting_of (codec_at address world.codecs))
+answer_when_brings world address false = refl
+
+pub answer_brings : (address : ℕ) (world : World) → (steps.answer_step address world).came ≡ world.came
+answer_brings address world = answer_when_brings world address (is_out_of_reset world.registers.global && nat_lt (length world.waiting) MOST_WAITING)
+
+lose_when_brings : (world : World) (address : ℕ) (out : Bool) → (if out then steps.lost address world else world).came ≡ world.came
+lose_when_brings world address true = refl
+lose_when_brings world address false = refl
+
+pub lose_brings : (address : ℕ) (world : World) → (steps.lose_step address world).came ≡ world.came
+lose_brings address world = lose_when_brings world address (is_out_of_reset world.registers.global)
+
+fetch_when_brings : (world : World) (most : ℕ) (fetches stores : Bool) → (if fetches then steps.output_fetched most world else (if stores then steps.input_stored most world else world)).came ≡ world.came
+fetch_when_brings world most true stores = refl
+fetch_when_brings world most false true = refl
+fetch_when_brings world most false false = refl
+
+pub fetch_brings : (stream most : ℕ) (world : World) → (steps.fetch_step stream most world).came ≡ world.came
+fetch_brings stream most world = fetch_when_brings world most _ _

@@ -10,4 +10,5 @@ mod Due
 mod Growth
 mod Listed
 mod Unheard
+mod WrittenMarks
 pub mod Callers

@@ -1,5 +1,5 @@
 -- What a step of the device adds to heard lists, and whose signals it renews. This project's own.
-use Rattle.std.specs.Prelude.{◌≡◌, ◌*◌, ◌++◌, ℕ, List, All, true, Some}
+use Rattle.std.specs.Prelude.{◌≡◌, ◌*◌, ◌++◌, ℕ, Bool, List, All, true, Some}
 use Rattle.codec_graph.specs.CodecStates.{CodecState}
 use Rattle.codec_graph.specs.declared.pin_kind.PinKind.{PinKind}
 use Rattle.codec_graph.specs.declared.pin_kind.PinKind.TheVariants.{Analog}
@@ -12,8 +12,8 @@ use Rattle.hda_world.specs.Worlds.{World, CarriedFrame}
 use Rattle.heard_lists.specs.Listings.{Listing, grown_as}
 use Rattle.hda_controller.specs.Controllers.{ControllerState, is_candidate_of_kind, renewals_of, renewals_handed}
 
--- for how many items in each list a step asks room: a link frame has at most four blocks, and one that misses them adds
--- one hole
+-- for how many items in each list a step asks room, and for how many marks of blocks that come: a link frame has at
+-- most four blocks each way, and one that misses those of the output stream adds one hole
 abbrev pub most_items : Step → ℕ
 most_items step.Corb = 0
 most_items (step.Answer codec) = 0
@@ -34,6 +34,13 @@ pub record GrewAs (kind : PinKind) (before after : World) (old new : List Listin
   pub added : List CarriedFrame
   pub carried : after.carried ≡ before.carried ++ added
   pub lists : new ≡ grown_as kind added old
+
+-- from one world to another these blocks came to the input stream, and the list got a mark for each: whether it was
+-- taken. No step has RUN rise, so what came before is never dropped
+pub record CameAs (before after : World) (old new : List Bool) : Type 0 where
+  pub added : List Bool
+  pub came : after.came ≡ before.came ++ added
+  pub marks : new ≡ old ++ added
 
 -- the lists of analog pins
 abbrev pub AreHeard : List CodecState → List Listing → Type 0

@@ -1,8 +1,10 @@
 //! The controller.
-ghost use Rattle.std.specs.Prelude.{◌≡◌, ◌+◌, ℕ, List, All, IfOk, Contains, Some, true, map};
+ghost use Rattle.std.specs.Prelude.{◌≡◌, ◌≤◌, ◌+◌, ℕ, List, All, IfOk, Contains, Some, true, map, vec_len};
+ghost use Rattle.std.specs.Prelude.{vec_capacity};
 ghost use Rattle.hda_registers.specs.Access.{value_at};
+ghost use Rattle.hda_registers.specs.declared.shapes.Width.{Width as AccessWidth};
 ghost use Rattle.hda_registers.specs.Status.{interrupt_line_of};
-ghost use Rattle.hda_world.specs.Worlds.{World, output_of};
+ghost use Rattle.hda_world.specs.Worlds.{World, given_sound, output_of};
 ghost use Rattle.std.specs.Option.{option_map};
 ghost use Rattle.stream_format.specs.Layouts.{layout, layout_of};
 ghost use Rattle.stream_descriptor.specs.Running.{found_at};
@@ -16,11 +18,12 @@ ghost use Rattle.codec_graph.specs.declared.pin_kind.PinKind.TheVariants as pin_
 ghost use Rattle.heard_lists.specs.Listings.{Listing, HasRoom, AreListsAs, AreListsOf, graphs_in};
 ghost use Rattle.hda_controller.specs.Controllers.{StandsFor, has_codec, renewals_of, renewals_written};
 ghost use Rattle.hda_controller.specs.Controllers.{renewals_handed, renewals_at, is_candidate_of_kind, signal_now};
-ghost use Rattle.hda_controller.specs.Hearing.{most_items, AreHeardAs, GrewAs, renewals_stepped};
+ghost use Rattle.hda_controller.specs.Hearing.{most_items, AreHeardAs, CameAs, GrewAs, renewals_stepped};
 ghost use Rattle.hda_controller.specs.Openings.{opening_world};
 
 mod hearing;
 
+use crate::marks::note_arrived;
 use crate::opening::{all_signals_of, codecs_of, shape_of};
 use crate::places::{is_there, place_of};
 use crate::renewing::{renew_handed, renew_if};
@@ -29,6 +32,7 @@ use codec_sound::{Kept, Signal};
 use device_core::{Device, touches_sound};
 use hda_files::Machine;
 use hda_registers::Width;
+use hda_world::the_given_sound_stays;
 use heard_lists::{HeardLists, Sounds};
 use std::alloc::{AllocError, Global};
 use std::marker::Model;
@@ -178,6 +182,27 @@ impl Controller {
         Format::from_word(self.device.registers().format(1))
     }
 
+    /// Gives all input pins this sound, whose blocks come to the input stream while it runs. This project's own.
+    pub fn give(&mut self, sound: Vec<u8>)
+        ensures stands { (memory : List ℕ) (world : World) → StandsFor memory self.old world
+            → StandsFor memory self.new (given_sound sound.items world) }
+        ensures renewals { renewals_of self.new ≡ renewals_of self.old }
+        ensures lists { (lists : List Listing) → AreHeardAs self.old.kind self.old.device.codecs lists
+            → AreHeardAs self.new.kind self.new.device.codecs lists }
+        ensures kind { self.new.kind ≡ self.old.kind }
+        ensures addresses { addresses_of self.new.device.codecs ≡ addresses_of self.old.device.codecs }
+        ensures given { self.new.device.input.given ≡ sound.items }
+    {
+        self.device.give(sound);
+    }
+
+    /// How many blocks came to the input stream since its RUN rose. At 2^64 - 1 the count stays.
+    pub fn came(&self) -> u64
+        ensures { result ≡ self.now.device.input.came }
+    {
+        self.device.came()
+    }
+
     /// Reads a register (HDA 1.0a, 3.3). A place that is no multiple of the width, and one without a register, reads 0.
     pub fn read(&self, at: u16, width: Width) -> u32
         ensures { result ≡ value_at self.now.device.registers at width }
@@ -195,7 +220,11 @@ impl Controller {
             → AreHeardAs self.new.kind self.new.device.codecs lists }
         ensures kind { self.new.kind ≡ self.old.kind }
         ensures addresses { addresses_of self.new.device.codecs ≡ addresses_of self.old.device.codecs }
+        ensures given { self.new.device.input.given ≡ self.old.device.input.given }
     {
+        // The controller stands for some world, whose sound no write changes.
+        self.device.is_some_world();
+        the_given_sound_stays();
         self.device.write(at, width, value);
         renew_if(
             self.kind,
@@ -203,6 +232,21 @@ impl Controller {
             &self.device,
             self.kept.as_mut_slice(),
         );
+    }
+
+    /// Drops the marks of the blocks that came, where the last write set RUN of the input stream: none came since. To
+    /// be called after each write.
+    pub fn keep_marks(&self, came: &mut Vec<bool>)
+        ensures came { (memory : List ℕ) (before : World) (at : ℕ) (width : AccessWidth) (value : ℕ)
+            → StandsFor memory self.now (after_write at width value before) → before.came ≡ came.old.items
+            → (after_write at width value before).came ≡ came.new.items }
+        ensures length { vec_len came.new ≤ vec_len came.old }
+        ensures capacity { vec_capacity came.new ≡ vec_capacity came.old }
+    {
+        let count = self.device.came();
+        if count == 0 {
+            came.clear();
+        }
     }
 
     /// CORB's engine fetches the next command and hands it to its codec (HDA 1.0a, 4.4.1). The codec's signals are
@@ -261,10 +305,10 @@ impl Controller {
         self.device.rirb(memory);
     }
 
-    /// A stream fetches at most so many bytes of its buffers (HDA 1.0a, 4.5).
-    pub(crate) fn fetch(&mut self, memory: &[u8], stream: u8, most: u16)
-        ensures stands { (world : World) → StandsFor memory.now self.old world
-            → StandsFor memory.now self.new (steps.fetch_step stream most world) }
+    /// A stream moves at most so many bytes between its FIFO and its buffers (HDA 1.0a, 4.5).
+    pub(crate) fn fetch(&mut self, memory: &mut [u8], stream: u8, most: u16)
+        ensures stands { (world : World) → StandsFor memory.old self.old world
+            → StandsFor memory.new self.new (steps.fetch_step stream most world) }
         ensures kept { self.new.kept ≡ self.old.kept }
         ensures kind { self.new.kind ≡ self.old.kind }
     {
@@ -272,8 +316,9 @@ impl Controller {
     }
 
     /// Lets a link frame pass (HDA 1.0a, 4.3, 4.5 and 5.3). Says what it carried; the bytes then stand at the front of
-    /// `into`.
-    pub(crate) fn frame(&mut self, into: &mut [u8; MOST_FRAME_BYTES]) -> Frame
+    /// `into`. Of each block that came to the input stream it notes whether that was taken.
+    pub(crate) fn frame(&mut self, into: &mut [u8; MOST_FRAME_BYTES], came: &mut Vec<bool>) -> Frame
+        requires { vec_len came.old + 4 ≤ vec_capacity came.old }
         ensures stands { (memory : List ℕ) (world : World) → StandsFor memory self.old world
             → StandsFor memory self.new (steps.frame_step world) }
         ensures answer { (memory : List ℕ) (world : World) → StandsFor memory self.old world
@@ -282,15 +327,30 @@ impl Controller {
         ensures kind { self.new.kind ≡ self.old.kind }
         ensures codecs { self.new.device.codecs ≡ self.old.device.codecs }
         ensures sound { KeepsSound self.old.device.registers self.new.device.registers }
+        ensures came { (memory : List ℕ) (world : World) → StandsFor memory self.old world
+            → CameAs world (steps.frame_step world) came.old.items came.new.items }
+        ensures space { (more : ℕ) → vec_len came.old + (4 + more) ≤ vec_capacity came.old
+            → vec_len came.new + more ≤ vec_capacity came.new }
     {
-        self.device.frame(into)
+        let frame = self.device.frame(into);
+        note_arrived(came, frame.came);
+        frame.sent
     }
 
     /// Lets the device make a step of a schedule (this project's own); one that names a codec, a pin or a stream that
     /// is not there changes nothing. Each list is that of a candidate pin of a codec, and hears each block that a link
-    /// frame carries, and each frame that misses its blocks: it has room for four items a link frame. Takes no memory.
-    pub fn step(&mut self, memory: &mut [u8], step: &Step, heard: &mut HeardLists)
+    /// frame carries, and each frame that misses its blocks: it has room for four items a link frame. For each block
+    /// that comes to the input stream a mark is put last, whether it was taken: there is room for four of these a link
+    /// frame. Takes no memory.
+    pub fn step(
+        &mut self,
+        memory: &mut [u8],
+        step: &Step,
+        heard: &mut HeardLists,
+        came: &mut Vec<bool>,
+    )
         requires room { HasRoom (most_items step.now) heard.old }
+        requires space { vec_len came.old + most_items step.now ≤ vec_capacity came.old }
         requires lists { AreHeardAs self.old.kind self.old.device.codecs heard.old }
         ensures stands { (world : World) → StandsFor memory.old self.old world
             → StandsFor memory.new self.new (steps.after_step step.now world) }
@@ -301,15 +361,23 @@ impl Controller {
         ensures renewals { renewals_of self.new ≡ renewals_stepped step.now memory.old self.old }
         ensures kind { self.new.kind ≡ self.old.kind }
         ensures addresses { addresses_of self.new.device.codecs ≡ addresses_of self.old.device.codecs }
+        ensures came { (world : World) → StandsFor memory.old self.old world
+            → CameAs world (steps.after_step step.now world) came.old.items came.new.items }
+        ensures space { (more : ℕ) → vec_len came.old + (most_items step.now + more) ≤ vec_capacity came.old
+            → vec_len came.new + more ≤ vec_capacity came.new }
+        ensures given { self.new.device.input.given ≡ self.old.device.input.given }
     {
-        // The controller stands for some world, so its codecs stay, and its lists those of candidate pins.
+        // The controller stands for some world, so its codecs stay, and its lists those of candidate pins. No step
+        // changes the world's sound.
         self.device.is_some_world();
-        self.make(memory, step, heard);
+        the_given_sound_stays();
+        self.make(memory, step, heard, came);
     }
 
     /// Makes the step.
-    fn make(&mut self, memory: &mut [u8], step: &Step, heard: &mut HeardLists)
+    fn make(&mut self, memory: &mut [u8], step: &Step, heard: &mut HeardLists, came: &mut Vec<bool>)
         requires room { HasRoom (most_items step.now) heard.old }
+        requires space { vec_len came.old + most_items step.now ≤ vec_capacity came.old }
         requires lists { AreHeardAs self.old.kind self.old.device.codecs heard.old }
         ensures stands { (world : World) → StandsFor memory.old self.old world
             → StandsFor memory.new self.new (steps.after_step step.now world) }
@@ -318,6 +386,10 @@ impl Controller {
         ensures room { (more : ℕ) → HasRoom (most_items step.now + more) heard.old → HasRoom more heard.new }
         ensures renewals { renewals_of self.new ≡ renewals_stepped step.now memory.old self.old }
         ensures kind { self.new.kind ≡ self.old.kind }
+        ensures came { (world : World) → StandsFor memory.old self.old world
+            → CameAs world (steps.after_step step.now world) came.old.items came.new.items }
+        ensures space { (more : ℕ) → vec_len came.old + (most_items step.now + more) ≤ vec_capacity came.old
+            → vec_len came.new + more ≤ vec_capacity came.new }
     {
         match *step {
             Step::Corb => self.corb(memory),
@@ -325,7 +397,7 @@ impl Controller {
             Step::Lose(codec) => self.lose(codec),
             Step::Rirb => self.rirb(memory),
             Step::Fetch(stream, most) => self.fetch(memory, stream, most),
-            Step::Link(frames) => self.link(frames, heard),
+            Step::Link(frames) => self.link(frames, heard, came),
             Step::Plug(codec, pin) => self.plug(codec, pin, true),
             Step::Unplug(codec, pin) => self.plug(codec, pin, false),
         }

@@ -4,6 +4,7 @@
 
 mod commands;
 mod controller;
+mod marks;
 mod opening;
 mod places;
 mod renewing;

@@ -1,11 +1,11 @@
-//! The room in heard lists that a step asks.
+//! The room in heard lists and in the list of marks that a step asks.
 ghost use Rattle.std.specs.Prelude.{◌≡◌};
 ghost use Rattle.hda_controller.specs.Hearing as spec;
 
 use world_steps::Step;
 
-/// For how many items in each heard list a step asks room: a link frame has at most four blocks, and one that misses
-/// them adds one hole. This project's own.
+/// For how many items in each heard list a step asks room, and for how many marks of blocks that come: a link frame has
+/// at most four blocks each way, and one that misses those of the output stream adds one hole. This project's own.
 pub fn most_items(step: &Step) -> u64
     ensures { result ≡ spec.most_items step.now }
 {

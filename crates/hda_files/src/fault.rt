@@ -155,7 +155,7 @@ pub enum FileFault {
     List(u8, u8, ListFault),
     /// The codec with this address has this fault of its graph.
     Graph(u8, GraphFault),
-    /// The file has more than 16 candidate pins.
+    /// The file has more than 16 analog candidate pins.
     TooManyPins,
     /// Memory was wanting. This says nothing of the file.
     OutOfMemory,

@@ -40,7 +40,7 @@ pub struct Machine {
     pub codecs: Items<CodecFile>,
 }
 
-/// Most candidate pins of a file.
+/// Most analog candidate pins of a file.
 const MOST_PINS: usize = 16;
 
 /// How many addresses a codec can have: 0 to 14.
@@ -53,7 +53,7 @@ const CODEC_ADDRESSES: u8 = 15;
 /// The file's first fault: [`FileFault::Toml`] where the bytes are no TOML text, then the keys' faults in the order in
 /// which the keys are tried, then those of the codecs ascending by address, each first with the fault of the least node
 /// identifier whose connection list has one and then with the graph's fault, and last [`FileFault::TooManyPins`], where
-/// the codecs have more than 16 candidate pins together. [`FileFault::OutOfMemory`] says nothing of the file.
+/// the codecs have more than 16 analog candidate pins together. [`FileFault::OutOfMemory`] says nothing of the file.
 pub fn read_machine(alloc: Global, bytes: &[u8]) -> Result<Machine, FileFault>
     ensures reading { Reads bytes.now result }
     ensures only { ReadsOnly bytes.now result }

@@ -35,6 +35,7 @@ other_memory old new model before world is = record {
     codecs_are = is.stands.codecs_are;
     waiting_is = is.stands.waiting_is;
     frames_are = is.stands.frames_are;
+    captured = record { given_is = is.stands.captured.given_is; came_is = is.stands.captured.came_is };
     input_stands = is.stands.input_stands;
     output_stands = is.stands.output_stands;
   };

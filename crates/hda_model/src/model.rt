@@ -32,6 +32,8 @@ use world_steps::Step;
 pub struct DeviceModel {
     controller: Controller,
     heard: HeardLists,
+    /// Of each block that came to the input stream in the last step whether it was taken. No call tells it.
+    came: Vec<bool>,
 }
 
 impl Model for DeviceModel {
@@ -71,7 +73,11 @@ impl DeviceModel {
     {
         let controller = Controller::new(alloc, machine)?;
         let heard = HeardLists::new(alloc, machine)?;
-        Ok(DeviceModel { controller, heard })
+        Ok(DeviceModel {
+            controller,
+            heard,
+            came: Vec::new(alloc),
+        })
     }
 
     /// A law: with any memory a model stands for some world, so the moves that its calls promise are never promised of
@@ -137,8 +143,10 @@ impl DeviceModel {
         ensures memory { OnErr result (memory.new ≡ memory.old) }
         ensures some { OnErr result (0 < most_items step.now) }
     {
-        make_room(&mut self.heard, most_items(step))?;
-        self.controller.step(memory, step, &mut self.heard);
+        self.came.clear();
+        make_room(&mut self.heard, &mut self.came, most_items(step))?;
+        self.controller
+            .step(memory, step, &mut self.heard, &mut self.came);
         Ok(())
     }
 

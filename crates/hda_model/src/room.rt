@@ -1,21 +1,27 @@
 //! Room for what pins hear.
-ghost use Rattle.std.specs.Prelude.{◌≡◌, ◌<◌, OnOk, OnErr, map};
+ghost use Rattle.std.specs.Prelude.{◌≡◌, ◌<◌, ◌≤◌, ◌+◌, OnOk, OnErr, map, vec_len, vec_capacity};
 ghost use Rattle.heard_lists.specs.Listings.{HasRoom, handed_out};
 
 use heard_lists::HeardLists;
 use std::alloc::AllocError;
 
-/// Makes room for so many more items in each list.
+/// Makes room for so many more items in each list, and for as many marks.
 ///
 /// # Errors
 /// Want of memory, where it is room for some. The lists stay as they were.
-pub(crate) fn make_room(lists: &mut HeardLists, items: u64) -> Result<(), AllocError>
+pub(crate) fn make_room(
+    lists: &mut HeardLists,
+    marks: &mut Vec<bool>,
+    items: u64,
+) -> Result<(), AllocError>
     ensures room { OnOk result (HasRoom items lists.new) }
+    ensures space { OnOk result (vec_len marks.new + items ≤ vec_capacity marks.new) }
     ensures lists { map handed_out lists.new ≡ map handed_out lists.old }
     ensures some { OnErr result (0 < items) }
 {
     if items == 0 {
         return Ok(());
     }
+    marks.reserve(items as usize)?;
     lists.reserve(items)
 }

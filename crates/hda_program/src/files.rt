@@ -24,8 +24,8 @@ use program_runs::{plays_all_so, plays_end_so};
 use sound_report::Status;
 use std::alloc::Global;
 
-/// Plays the sound of the WAV file through the machine of the codec file, by the schedule, and writes its text, as
-/// `play` does with these names. The ring has 2 to 32 periods of 1 to 128 units, each of 384 bytes.
+/// Plays the sound of the WAV file through analog pins of the machine of the codec file, by the schedule, and writes its
+/// text, as `play` does with these names. The ring has 2 to 32 periods of 1 to 128 units, each of 384 bytes.
 ///
 /// It ends with a status of [`Status`]: 0 where all frames of sound were played. Its run of the driver is given also
 /// where its text could not be written. The sound is read while it is played; where its reading is cut the run goes on

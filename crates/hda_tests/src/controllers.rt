@@ -16,11 +16,13 @@ use std::test::Fail;
 use test_codecs::LEAST;
 use world_steps::Step;
 
-/// A controller, the lists of what its pins hear, and its first codec's address.
+/// A controller, the lists of what its pins hear, the marks of the blocks that come to it, and its first codec's
+/// address.
 #[derive(Drop)]
 struct Desk {
     controller: Controller,
     lists: HeardLists,
+    came: Vec<bool>,
     codec: u8,
 }
 
@@ -45,6 +47,7 @@ fn open(alloc: Global, text: &str) -> Result<Desk, Fail>
     Ok(Desk {
         controller: Controller::new(alloc, &machine)?,
         lists: HeardLists::new(alloc, &machine)?,
+        came: Vec::new(alloc),
         codec,
     })
 }
@@ -61,7 +64,9 @@ impl Desk {
     {
         for step in steps {
             self.lists.reserve(most_items(step))?;
-            self.controller.step(memory, step, &mut self.lists);
+            self.came.reserve(most_items(step) as usize)?;
+            self.controller
+                .step(memory, step, &mut self.lists, &mut self.came);
         }
         Ok(())
     }

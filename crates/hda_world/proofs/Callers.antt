@@ -162,3 +162,15 @@ pub use Rattle.hda_world.proofs.Inputs.{by_moves}
 pub use Rattle.hda_world.proofs.Inputs.{by_stopped}
 -- one change of a descriptor and then another
 pub use Rattle.hda_world.proofs.Inputs.{descriptor_both}
+-- a word is the same where its four bytes are
+pub use Rattle.hda_world.proofs.Buffers.{same_word}
+-- which buffers an input stream names after a change, and that its list still lies apart from them
+pub use Rattle.hda_world.proofs.Buffers.{ListStays, NamesNoMore, names_stay, names_took, names_stored, outside_still, place_before, apart_still, apart_stored, apart_took}
+-- a byte that is stored lies in a buffer that is named
+pub use Rattle.hda_world.proofs.Buffers.{byte_outside}
+-- a write beside GCTL and the input's descriptor leaves the input stream
+pub use Rattle.hda_world.proofs.Writing.{input_stays}
+-- and one of its status changes its status bits alone
+pub use Rattle.hda_world.proofs.Writing.{input_status}
+-- where RUN of the input stream rises its list lies apart from the buffers, if it lies outside them
+pub use Rattle.hda_world.proofs.TakenWrites.{write_begins_list}

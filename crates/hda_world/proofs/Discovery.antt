@@ -14,9 +14,10 @@ use Rattle.hda_world.specs.Worlds.{World, with_codec, output_of}
 use Rattle.world_steps.specs.declared.Step.TheVariants as step
 use Rattle.codec_graph.proofs.Callers.{graph-plugged}
 use Rattle.world_rings.proofs.Callers.{status_responded}
-use Rattle.hda_world.specs.Steps.{discovered, passed, output_framed, frame_step, times, after_step, after_steps}
+use Rattle.hda_world.specs.Steps.{discovered, passed, output_framed, input_framed, frame_step, times, after_step, after_steps}
 use Rattle.hda_world.specs.Kept.{Kept}
 use Rattle.hda_world.specs.Discovery.{addresses_of, AreSet, IsDiscovered}
+use Rattle.hda_world.proofs.Inputs.{by_moves}
 use Rattle.hda_world.proofs.Stepping.{kept_step, kept_steps, frames_after, passed_out}
 
 -- a bit that is 1 stays so, and the codec's own becomes 1
@@ -85,6 +86,7 @@ keeps_discovery = record {
     breaks = λ world holds can room bad. holds;
     refuses = λ world holds must. holds;
   };
+  input = by_moves IsDiscovered (λ world change holds moves. holds);
   passes = λ world holds out still late. frame_by _ world refl holds late;
   frames = frames_after IsDiscovered (λ world holds out late. frame_by _ world refl holds late) (record {
     gaps = λ world holds can none. holds;
@@ -99,8 +101,8 @@ steps_keep_discovery steps world holds = kept_steps IsDiscovered keeps_discovery
 
 -- ---- when the codecs are discovered
 
-out_frame : (world : World) → is_out_of_reset world.registers.global ≡ true → frame_step world ≡ output_framed (frame_of (output_of world)) (passed world)
-out_frame world out = ap (λ (out : Bool). if out then output_framed (frame_of (output_of world)) (passed world) else world) out
+out_frame : (world : World) → is_out_of_reset world.registers.global ≡ true → frame_step world ≡ input_framed (output_framed (frame_of (output_of world)) (passed world))
+out_frame world out = ap (λ (out : Bool). if out then input_framed (output_framed (frame_of (output_of world)) (passed world)) else world) out
 
 still_out : (world : World) → is_out_of_reset world.registers.global ≡ true → is_out_of_reset (frame_step world).registers.global ≡ true
 still_out world out = ap (λ (after : World). is_out_of_reset after.registers.global) (out_frame world out) ∙ passed_out world out

@@ -1,5 +1,5 @@
 -- What the moves of the input stream change.
-use Rattle.std.proofs.Common.{◌≡◌, ◌⊎◌, ℕ, ◌==◌, Bool, true, false, List, [], ◌∷◌, ◌++◌, refl, sym, ap, ◌∙◌, inl, inr}
+use Rattle.std.proofs.Common.{◌≡◌, ◌⊎◌, ℕ, ◌==◌, Bool, true, false, List, [], ◌∷◌, ◌++◌, append-nil, refl, sym, ap, ◌∙◌, inl, inr}
 use Rattle.std.proofs.lemmas.Bool.{false≢true}
 use Rattle.hda_registers.specs.Fields.{Descriptor, is_out_of_reset, is_running, list_address}
 use Rattle.world_rings.proofs.Callers.{stored_outside}
@@ -8,7 +8,7 @@ use Rattle.world_streams.specs.Input.{frame_took, marks_of, memory_with, byte_st
 use Rattle.hda_world.specs.Worlds.{World, input_of}
 use Rattle.hda_world.specs.Arriving.{arriving}
 use Rattle.hda_world.specs.Kept.{KeptByInput, KeptByMoves, input_broke}
-use Rattle.hda_world.specs.Leaving.{DescriptorStays}
+use Rattle.hda_world.specs.Leaving.{DescriptorStays, WentOn}
 
 not_both : {A : Type 0} (test : Bool) → test ≡ false → test ≡ true → A
 not_both test off on = absurd (false≢true (sym off ∙ on))
@@ -51,11 +51,14 @@ descriptor_both first second third one other = record {
 
 -- ---- relations that are kept
 
+same_came : (came : List Bool) → WentOn came came
+same_came came = ([], sym (append-nil came))
+
 -- one that every move of the input stream keeps
 module _ (Holds : World → Type 0) (moves : KeptByMoves Holds) where
   breaks : (world : World) → Holds world → is_out_of_reset world.registers.global ≡ true → is_running world.registers.input ≡ true → Holds (input_broke world)
   breaks world holds out runs = moves world (record { memory = world.memory; stream = broke (input_of world); came = world.came }) holds
-      (record { out = out; runs = runs; size = refl; descriptor = broke_stays (input_of world) runs })
+      (record { out = out; runs = runs; size = refl; descriptor = broke_stays (input_of world) runs; came = same_came world.came })
 
   pub by_moves : KeptByInput Holds
   by_moves = record {
@@ -68,6 +71,7 @@ module _ (Holds : World → Type 0) (moves : KeptByMoves Holds) where
       runs = can.runs;
       size = (stored_outside (byte_place world.memory (list_address world.registers.input) world.input) (oldest_byte world.input ∷ []) world.memory).0;
       descriptor = byte_stays world.memory (input_of world) can.runs;
+      came = same_came world.came;
     });
     jams = λ world holds can some bad. breaks world holds can.out can.runs;
     takes = λ world holds can. moves world (record {
@@ -79,6 +83,7 @@ module _ (Holds : World → Type 0) (moves : KeptByMoves Holds) where
       runs = can.runs;
       size = refl;
       descriptor = took_stays world.registers.shape.fifo (arriving world) (input_of world) can.runs;
+      came = (marks_of world.registers.shape.fifo (arriving world) (input_of world), refl);
     });
     refuses = λ world holds must. breaks world holds must.out must.runs;
   }

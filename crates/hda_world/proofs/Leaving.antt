@@ -24,8 +24,9 @@ use Rattle.hda_registers.proofs.Callers.{keeps-reset, keeps-left, leaves-rings, 
 use Rattle.hda_registers.specs.Access.{written, effects_of}
 use Rattle.codec_graph.proofs.Callers.{graph-plugged}
 use Rattle.hda_world.specs.Events.{reset_if, counted_anew_if, streams_settled, registers_written, after_write}
-use Rattle.hda_world.specs.Kept.{Kept, KeptByBytes, KeptByFrames, unmoved}
+use Rattle.hda_world.specs.Kept.{Kept, KeptByBytes, KeptByFrames, unmoved, InputChange, IsInputMove, input_moved}
 use Rattle.hda_world.specs.Leaving.{DescriptorStays, RegistersStay, MemoryStays, IsOutsideRirb, StepsLeave, WentOn, AccessLeaves}
+use Rattle.hda_world.proofs.Inputs.{by_moves, descriptor_both}
 use Rattle.hda_world.proofs.Stepping.{kept_steps, frames_after}
 
 -- ---- RIRB
@@ -34,7 +35,7 @@ place_inside : (fields : Fields) → response_place fields < entries_of fields.s
 place_inside fields = mod-lt _ (some_entries fields.shape.rirb)
 
 -- an address outside RIRB is outside the entry that is written next
-outside_entry : (fields : Fields) (response : Response) (at : ℕ) → IsOutsideRirb fields at → IsOutside (rirb_address fields + 8 * response_place fields) (length (response_bytes response)) at
+pub outside_entry : (fields : Fields) (response : Response) (at : ℕ) → IsOutsideRirb fields at → IsOutside (rirb_address fields + 8 * response_place fields) (length (response_bytes response)) at
 outside_entry fields response at apart =
     let place = place_inside fields in
     let eight = length-response_bytes response in
@@ -154,6 +155,7 @@ stay_output start world output state more stay stream = record {
   commands = stay.commands;
   written = stay.written;
   carried = went_on start.carried world.carried more stay.carried;
+  came = stay.came;
 }
 
 stay_fetched : (start world : World) (output : Descriptor) (state : StreamState) → StepsLeave start world → DescriptorStays start.registers.output output
@@ -165,6 +167,7 @@ stay_fetched start world output state stay stream = record {
   commands = stay.commands;
   written = stay.written;
   carried = stay.carried;
+  came = stay.came;
 }
 
 leaves_bytes : (start : World) → KeptByBytes (StepsLeave start)
@@ -191,9 +194,30 @@ leaves_passed start world stay out = record {
   commands = stay.commands;
   written = stay.written;
   carried = stay.carried;
+  came = stay.came;
   registers = (
       let moved = stay_discovered (world.frames + 1 == FRAMES_TO_DISCOVERY) world.codecs start.registers (framed world.registers) (stay_clock start.registers world.registers stay.registers) in
       record { shape = stay.registers.shape; input = stay.registers.input; output = stay.registers.output; global = moved.global });
+}
+
+-- the input stream moved: memory is that of before only where it did not run
+input_leaves : (start world : World) (change : InputChange) → StepsLeave start world → IsInputMove world change → StepsLeave start (input_moved change world)
+input_leaves start world change stay moves = record {
+  memory = record {
+    size = moves.size ∙ stay.memory.size;
+    outside = λ still at apart. absurd (true≢false (sym moves.runs ∙ (ap is_running (stay.registers.input.still still) ∙ still)));
+  };
+  registers = record {
+    shape = stay.registers.shape;
+    input = descriptor_both start.registers.input world.registers.input change.stream.descriptor stay.registers.input moves.descriptor;
+    output = stay.registers.output;
+    global = stay.registers.global;
+  };
+  graphs = stay.graphs;
+  commands = stay.commands;
+  written = stay.written;
+  carried = stay.carried;
+  came = (stay.came.0 ++ moves.came.0, moves.came.1 ∙ (ap (λ (xs : List Bool). xs ++ moves.came.0) stay.came.1 ∙ append_assoc start.came stay.came.0 moves.came.0));
 }
 
 leaves : (start : World) → Kept (StepsLeave start)
@@ -206,6 +230,7 @@ leaves start = record {
       commands = went_on start.commands world.commands _ stay.commands;
       written = stay.written;
       carried = stay.carried;
+      came = stay.came;
     };
     sends = λ world address item rest stay out room are. record {
       memory = stay.memory;
@@ -213,6 +238,7 @@ leaves start = record {
       commands = stay.commands;
       written = stay.written;
       carried = stay.carried;
+      came = stay.came;
       graphs = graphs-with_codec _ _ (λ codec. refl) world.codecs ∙ stay.graphs;
     };
     loses = λ world address stay out. record {
@@ -221,6 +247,7 @@ leaves start = record {
       commands = stay.commands;
       written = stay.written;
       carried = stay.carried;
+      came = stay.came;
       graphs = graphs-with_codec _ _ (λ codec. refl) world.codecs ∙ stay.graphs;
     };
     plugs = λ world address nid present stay. record {
@@ -229,6 +256,7 @@ leaves start = record {
       commands = stay.commands;
       written = stay.written;
       carried = stay.carried;
+      came = stay.came;
       graphs = graphs-with_codec address (λ codec. plugged codec nid present) (graph-plugged nid present) world.codecs ∙ stay.graphs;
     };
   };
@@ -241,8 +269,10 @@ leaves start = record {
         commands = stay.commands;
         written = went_on start.written world.written _ stay.written;
         carried = stay.carried;
+        came = stay.came;
       });
   bytes = leaves_bytes start;
+  input = by_moves (StepsLeave start) (input_leaves start);
   passes = λ world stay out still. leaves_passed start world stay out;
   frames = frames_after (StepsLeave start) (leaves_passed start) (leaves_frames start);
 }
@@ -255,6 +285,7 @@ nothing_left world = record {
   commands = ([], sym (append-nil world.commands));
   written = ([], sym (append-nil world.written));
   carried = ([], sym (append-nil world.carried));
+  came = ([], sym (append-nil world.came));
 }
 
 pub steps_leave : (steps : List Step) (world : World) → StepsLeave world (after_steps steps world)

@@ -2,6 +2,7 @@ mod Noting
 pub mod Callers
 pub mod Stepping
 pub mod Inputs
+pub mod Buffers
 pub mod Singly
 pub mod Telling
 pub mod Rows
@@ -14,5 +15,9 @@ pub mod Found
 pub mod Streaming
 pub mod Writing
 pub mod Settling
+pub mod Taking
+pub mod TakenWrites
+pub mod TakenSound
+pub mod BufferSteps
 pub mod Moments
 pub mod Passing

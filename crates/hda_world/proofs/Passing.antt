@@ -8,6 +8,7 @@ use Rattle.hda_world.specs.declared.step.TheConstants.{FRAMES_TO_DISCOVERY}
 use Rattle.hda_world.specs.Worlds.{World, TakenCommand}
 use Rattle.hda_world.specs.Steps.{discovered, passed}
 use Rattle.hda_world.specs.Kept.{KeptByCodecs, Kept}
+use Rattle.hda_world.proofs.Inputs.{by_moves}
 
 -- the discovery changes the state change status alone
 discovered_global : (codecs : List CodecState) (fields : Fields) → (discovered codecs fields).global ≡ record fields.global { state_status = (discovered codecs fields).global.state_status }
@@ -40,6 +41,12 @@ kept_both One Other one other = record {
     breaks = λ world holds can room bad. (one.bytes.breaks world holds.0 can room bad, other.bytes.breaks world holds.1 can room bad);
     refuses = λ world holds must. (one.bytes.refuses world holds.0 must, other.bytes.refuses world holds.1 must);
   };
+  input = record {
+    stores = λ world holds can some good. (one.input.stores world holds.0 can some good, other.input.stores world holds.1 can some good);
+    jams = λ world holds can some bad. (one.input.jams world holds.0 can some bad, other.input.jams world holds.1 can some bad);
+    takes = λ world holds can. (one.input.takes world holds.0 can, other.input.takes world holds.1 can);
+    refuses = λ world holds must. (one.input.refuses world holds.0 must, other.input.refuses world holds.1 must);
+  };
   passes = λ world holds out still. (one.passes world holds.0 out still, other.passes world holds.1 out still);
   frames = record {
     gaps = λ world holds can none. (one.frames.gaps world holds.0 can none, other.frames.gaps world holds.1 can none);
@@ -67,6 +74,7 @@ kept_frames Holds next = record {
     breaks = λ world holds can room bad. holds;
     refuses = λ world holds must. holds;
   };
+  input = by_moves _ (λ world change holds moves. holds);
   passes = λ world holds out still. next world.frames holds;
   frames = record {
     gaps = λ world holds can none. next world.frames holds;
@@ -87,6 +95,7 @@ kept_codecs Holds codecs = record {
     breaks = λ world holds can room bad. holds;
     refuses = λ world holds must. holds;
   };
+  input = by_moves _ (λ world change holds moves. holds);
   passes = λ world holds out still. holds;
   frames = record {
     gaps = λ world holds can none. holds;

@@ -16,7 +16,7 @@ use Rattle.hda_world.proofs.Leaving.{access_leaves, write_registers}
 use Rattle.hda_world.proofs.Writing.{write_states}
 
 -- a stream that runs where RUN did not rise ran before
-was_running : (ran runs : Bool) → (not ran && runs) ≡ false → runs ≡ true → ran ≡ true
+pub was_running : (ran runs : Bool) → (not ran && runs) ≡ false → runs ≡ true → ran ≡ true
 was_running true runs still on = refl
 was_running false true still on = cc
 was_running false false still on = cc
@@ -85,7 +85,7 @@ stopped_now true true falls = cc
 stopped_now true false falls = refl
 stopped_now false runs falls = cc
 
-ready_by : (rises falls : Bool) (old new : Descriptor) (state : StreamState) → rose old new ≡ rises → fell old new ≡ falls
+pub ready_by : (rises falls : Bool) (old new : Descriptor) (state : StreamState) → rose old new ≡ rises → fell old new ≡ falls
     → (is_running old ≡ true → is_running new ≡ true → SamePlay old new) → (new.fifo_ready ≡ old.fifo_ready) ⊎ (new.fifo_ready ≡ 0)
     → old.fifo_ready ≡ worth (is_ready (record { descriptor = old; state = state })) 0
     → (if rises || falls then 0 else new.fifo_ready) ≡ worth (is_ready (record { descriptor = new; state = if rises then begun else state })) 0

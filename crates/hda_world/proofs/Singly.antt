@@ -66,6 +66,7 @@ module _ (Holds : World → Type 0) (kept : KeptSingly Holds) where
     codecs = kept.codecs;
     responds = kept_responses;
     bytes = kept.bytes;
+    input = kept.input;
     passes = λ world holds out still. frame_by _ world refl out holds;
     frames = frames_after Holds (λ world holds out. frame_by _ world refl out holds) kept.frames;
   }

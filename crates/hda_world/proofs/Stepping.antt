@@ -11,13 +11,15 @@ use Rattle.world_rings.specs.Entries.{next_command}
 use Rattle.world_rings.specs.Engines.{can_fetch, can_respond, batch_of, batch}
 use Rattle.world_streams.specs.Streams.{Stream, held, due, is_usable, broke}
 use Rattle.world_streams.specs.Output.{has_room, byte_came, fetched_one, fetch_move, moves, Frame, Stopped, Broken, Gap, Blocks, Hole, frame_of}
+use Rattle.world_streams.specs.Input.{Intake, Storage, store_move, store}
+use Rattle.world_streams.proofs.Callers.{store-cases}
 use Rattle.world_steps.specs.declared.Step.{Step}
 use Rattle.world_steps.specs.declared.Step.TheVariants as step
 use Rattle.world_rings.proofs.Callers.{batch_none}
 use Rattle.hda_world.specs.declared.step.TheConstants.{FRAMES_TO_DISCOVERY}
 use Rattle.hda_world.specs.Worlds.{World, CarriedFrame, codec_at, output_of, with_output}
-use Rattle.hda_world.specs.Steps.{address_of, is_busy, handed_next, waiting_of, sent_first, responded, discovered, passed, output_framed, frame_step, fetch_step, times, answer_step, lose_step, rirb_step, after_step, after_steps}
-use Rattle.hda_world.specs.Kept.{Kept, KeptByFrames, unmoved, CanStream, MustBreak, next_is_good, next_completes}
+use Rattle.hda_world.specs.Steps.{address_of, is_busy, handed_next, waiting_of, sent_first, responded, discovered, passed, output_framed, with_intake, input_framed, storage_of, with_storage, frame_step, fetch_step, times, answer_step, lose_step, rirb_step, after_step, after_steps}
+use Rattle.hda_world.specs.Kept.{Kept, KeptByFrames, unmoved, CanStream, MustBreak, next_is_good, next_completes, input_broke}
 
 pub after_steps-append : (first second : List Step) (world : World) → after_steps (first ++ second) world ≡ after_steps second (after_steps first world)
 after_steps-append [] second world = refl
@@ -37,6 +39,10 @@ stopped_same world = ap (λ (carried : List CarriedFrame). record world { carrie
 pub broken_same : (world : World) → output_framed Broken world ≡ with_output (broke (output_of world)) world
 broken_same world =
     ap (λ (carried : List CarriedFrame). record (with_output (broke (output_of world)) world) { carried = carried }) (append-nil world.carried)
+
+-- where nothing comes to an input stream, what came stays
+nothing_came : (world : World) → record world { came = world.came ++ [] } ≡ world
+nothing_came world = ap (λ (came : List Bool). record world { came = came }) (append-nil world.came)
 
 -- a link frame keeps the controller out of reset
 out-discovered : (codecs : List CodecState) (fields : Fields) → is_out_of_reset (discovered codecs fields).global ≡ is_out_of_reset fields.global
@@ -133,9 +139,22 @@ module _ (Holds : World → Type 0) (kept : Kept Holds) where
   kept_moves (suc n) world out holds =
       kept_moves n (with_output (fetch_move world.registers.shape.fifo world.memory (output_of world)) world) out (kept_move world out holds)
 
+  -- one byte of the input stream, or what it does instead
+  kept_store : (world : World) → is_out_of_reset world.registers.global ≡ true → Holds world → Holds (with_storage (store_move (storage_of world)) world)
+  kept_store world out holds =
+      store-cases (λ (storage : Storage). Holds (with_storage storage world)) (storage_of world) holds
+      (λ runs unusable. kept.input.refuses world holds (record { out = out; runs = runs; unusable = unusable }))
+      (λ runs usable some bad. kept.input.jams world holds (record { out = out; runs = runs; usable = usable }) some bad)
+      (λ runs usable some good. kept.input.stores world holds (record { out = out; runs = runs; usable = usable }) some good)
+
+  kept_stores : (n : ℕ) (world : World) → is_out_of_reset world.registers.global ≡ true → Holds world → Holds (with_storage (store n (storage_of world)) world)
+  kept_stores zero world out holds = holds
+  kept_stores (suc n) world out holds = kept_stores n (with_storage (store_move (storage_of world)) world) out (kept_store world out holds)
+
   kept_fetch : (stream most : ℕ) (world : World) → Holds world → Holds (fetch_step stream most world)
   kept_fetch stream most world holds =
-      branch (is_out_of_reset world.registers.global && stream == 1) _ world (λ can. kept_moves most world (search (rules, tests)) holds) holds
+      branch (is_out_of_reset world.registers.global && stream == 1) _ _ (λ can. kept_moves most world (search (rules, tests)) holds)
+      (branch (is_out_of_reset world.registers.global && stream == 0) _ world (λ can. kept_stores most world (search (rules, tests)) holds) holds)
 
   -- a link frame, by what it finds
   kept_running : (world : World) → CanStream world → Holds world
@@ -156,8 +175,19 @@ module _ (Holds : World → Type 0) (kept : Kept Holds) where
       (λ unusable. subst Holds (sym (broken_same (passed world))) (kept.frames.stops world holds (record { out = out; runs = runs; unusable = unusable }))))
       (λ still. subst Holds (sym (stopped_same (passed world))) (kept.passes world holds out still))
 
+  -- and then the input stream, by what it finds
+  kept_heard : (world : World) → is_out_of_reset world.registers.global ≡ true → Holds world → Holds (input_framed world)
+  kept_heard world out holds =
+      cases_of (λ (intake : Intake). Holds (with_intake intake world)) (is_running world.registers.input) _ _
+      (λ runs. cases_of (λ (intake : Intake). Holds (with_intake intake world)) (is_usable world.registers.input) _ _
+      (λ usable. kept.input.takes world holds (record { out = out; runs = runs; usable = usable }))
+      (λ unusable. subst Holds (sym (nothing_came (input_broke world))) (kept.input.refuses world holds (record { out = out; runs = runs; unusable = unusable }))))
+      (λ still. subst Holds (sym (nothing_came world)) holds)
+
   kept_frame : (world : World) → Holds world → Holds (frame_step world)
-  kept_frame world holds = branch (is_out_of_reset world.registers.global) _ world (λ out. kept_found world out holds) holds
+  kept_frame world holds =
+      branch (is_out_of_reset world.registers.global) _ world
+      (λ out. kept_heard (output_framed (frame_of (output_of world)) (passed world)) (passed_out world out) (kept_found world out holds)) holds
 
   kept_frames : (n : ℕ) (world : World) → Holds world → Holds (times n frame_step world)
   kept_frames zero world holds = holds

@@ -21,6 +21,7 @@ use Rattle.hda_world.specs.Steps.{address_of, is_busy, handed_next, waiting_of, 
 use Rattle.hda_world.specs.Kept.{Kept, KeptByBytes, KeptByFrames, unmoved}
 use Rattle.hda_world.specs.Leaving.{StreamsStay, NamesNoStream}
 use Rattle.hda_world.specs.Streaming.{IsWithinFifo, HoldsFifo, HasPosition, ShowsReady, bytes_of, carried_bytes, AreSent, HasSent, StaysStopped}
+use Rattle.hda_world.proofs.Inputs.{by_moves}
 use Rattle.hda_world.proofs.Stepping.{kept_steps, frames_after}
 
 -- ---- the FIFO
@@ -60,6 +61,7 @@ module _ (P : ℕ → Descriptor → StreamState → List CarriedFrame → Type 
     responds = λ world response rest holds can are.
         subst (λ (fields : Fields). P fields.shape.fifo fields.output world.output world.carried) (sym (global_after (response ∷ rest) world.registers)) holds;
     bytes = bytes;
+    input = by_moves OfOutput (λ world change holds moves. holds);
     passes = λ world holds out still. holds;
     frames = frames_after OfOutput (λ world holds out. holds) frames;
   }

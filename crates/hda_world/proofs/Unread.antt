@@ -16,6 +16,7 @@ use Rattle.hda_world.specs.Worlds.{World}
 use Rattle.hda_world.specs.Steps.{discovered, passed, after_steps}
 use Rattle.hda_world.specs.Kept.{Kept}
 use Rattle.hda_world.specs.Unread.{IsReadTo, HasReadTo}
+use Rattle.hda_world.proofs.Inputs.{by_moves}
 use Rattle.hda_world.proofs.Stepping.{batch_some, kept_steps, frames_after}
 
 some_entries : (size : RingSize) → 1 < entries_of size
@@ -67,6 +68,7 @@ keeps_reading read = record {
     breaks = λ world holds can room bad. holds;
     refuses = λ world holds must. holds;
   };
+  input = by_moves (HasReadTo read) (λ world change holds moves. holds);
   passes = λ world holds out still. passed_reading read world holds out;
   frames = frames_after (HasReadTo read) (passed_reading read) (record {
     gaps = λ world holds can none. holds;

@@ -1,14 +1,16 @@
 -- What writes of registers do to the streams.
-use Rattle.std.proofs.Common.{◌≡◌, ◌≢◌, ◌≤◌, ◌<◌, ◌/◌, inl, inr, nat_lt, ℕ, Bool, true, false, List, length, if◌then◌else◌, refl, sym, ap, subst, ◌∙◌, arith, rules, tests}
+use Rattle.std.proofs.Common.{◌≡◌, ◌≢◌, ◌≤◌, ◌<◌, ◌/◌, ◌⊎◌, inl, inr, nat_lt, ℕ, Bool, true, false, List, length, if◌then◌else◌, refl, sym, ap, ap₂, subst, ◌∙◌, arith, rules, tests}
 use Rattle.std.proofs.Math.Bool.{not-and_self, and-not_self}
+use Rattle.std.proofs.lemmas.Bool.{cases_lt}
 use Rattle.hda_registers.specs.declared.shapes.Width.{Width}
+use Rattle.hda_registers.specs.declared.shapes.Width.TheVariants.{One}
 use Rattle.hda_registers.specs.declared.shapes.Shape.{Shape}
 use Rattle.hda_registers.specs.Fields.{Global, Descriptor, Fields, reset_fields, is_out_of_reset, is_running}
 use Rattle.hda_registers.specs.Access.{written, placed, with_global, global_written, access_of, is_taken, effects_of, rose}
 use Rattle.hda_registers.specs.Laws.{IsBesideStreams, LeavesStreams}
-use Rattle.hda_registers.proofs.Callers.{leaves-streams, keeps-shape}
+use Rattle.hda_registers.proofs.Callers.{leaves-streams, changes-output, status-input, keeps-shape}
 use Rattle.world_streams.specs.Streams.{StreamState, begun, settled, settled_state}
-use Rattle.hda_world.specs.Worlds.{World}
+use Rattle.hda_world.specs.Worlds.{World, input_of}
 use Rattle.hda_world.specs.Events.{reset_if, counted_anew_if, registers_written, settled_came, after_write}
 use Rattle.hda_world.specs.Leaving.{StreamsStay}
 use Rattle.hda_world.specs.Streaming.{IsWithinFifo, HoldsFifo}
@@ -25,6 +27,10 @@ parts false false world = (refl, refl, refl, refl)
 
 pub settled_same : (d : Descriptor) → settled d d ≡ d
 settled_same d = rw (not-and_self (is_running d), and-not_self (is_running d)) refl
+
+settled_run : (d : Descriptor) (completion fifo_error descriptor_error : ℕ)
+    → (let new : Descriptor = record d { completion = completion; fifo_error = fifo_error; descriptor_error = descriptor_error } in settled d new ≡ new)
+settled_run d completion fifo_error descriptor_error = rw (not-and_self (is_running d), and-not_self (is_running d)) refl
 
 state_same : (d : Descriptor) (state : StreamState) → settled_state d d state ≡ state
 state_same d state = rw (not-and_self (is_running d)) refl
@@ -48,6 +54,24 @@ descriptors_left world at value width left =
 
 pub beside_streams : (world : World) (at value : ℕ) (width : Width) → at / 4 ≢ 2 → IsBesideStreams at → StreamsStay world (after_write at width value world)
 beside_streams world at value width apart beside = descriptors_left world at value width (leaves-streams world.registers at width value apart beside)
+
+-- a write beside GCTL and the input's descriptor leaves the input stream
+input_left : (fields : Fields) (at value : ℕ) (width : Width) → at / 4 ≢ 2 → (at < 0x80) ⊎ (0xA0 ≤ at) → (written fields at width value).input ≡ fields.input
+input_left fields at value width apart (inl below) = (leaves-streams fields at width value apart (inl below)).input
+input_left fields at value width apart (inr above) = by (cases_lt at 0xC0)
+  where
+    by : (at < 0xC0) ⊎ (0xC0 ≤ at) → (written fields at width value).input ≡ fields.input
+    by (inl below) = (changes-output fields at width value above below).input
+    by (inr over) = (leaves-streams fields at width value apart (inr over)).input
+
+pub input_stays : (world : World) (at value : ℕ) (width : Width) → at / 4 ≢ 2 → (at < 0x80) ⊎ (0xA0 ≤ at) → input_of (after_write at width value world) ≡ input_of world
+input_stays world at value width apart beside =
+    let left = input_left world.registers at value width apart beside in
+    let fields = write_registers world at value width in
+    let rest = parts (effects_of world.registers at width value).reset (effects_of world.registers at width value).left_reset (registers_written (written world.registers at width value) world) in
+    ap₂ (λ (descriptor : Descriptor) (state : StreamState). record { descriptor = descriptor; state = state })
+    (ap (λ (f : Fields). f.input) fields ∙ (ap (settled world.registers.input) left ∙ settled_same world.registers.input))
+    (rest.0 ∙ (ap (λ (d : Descriptor). settled_state world.registers.input d world.input) left ∙ state_same world.registers.input world.input))
 
 -- a change after which CRST is 1 leaves both descriptors
 abbrev LeavesOut : Fields → Fields → Type 0
@@ -105,12 +129,31 @@ write_states world at value width =
     let rest = parts (effects_of world.registers at width value).reset (effects_of world.registers at width value).left_reset (registers_written (written world.registers at width value) world) in
     (rest.0, rest.1)
 
+-- a write of the input stream's status changes its status bits alone
+pub input_status : (world : World) (value : ℕ) → let new = (written world.registers 0x83 One value).input in
+    input_of (after_write 0x83 One value world)
+    ≡ record { descriptor = record world.registers.input { completion = new.completion; fifo_error = new.fifo_error; descriptor_error = new.descriptor_error }; state = world.input }
+input_status world value =
+    let new = (written world.registers 0x83 One value).input in
+    let status = status-input world.registers value in
+    let fields = write_registers world 0x83 value One in
+    let stays : Descriptor = record world.registers.input { completion = new.completion; fifo_error = new.fifo_error; descriptor_error = new.descriptor_error } in
+    ap₂ (λ (descriptor : Descriptor) (state : StreamState). record { descriptor = descriptor; state = state })
+    (ap (λ (f : Fields). f.input) fields ∙ (ap (settled world.registers.input) status ∙ settled_run world.registers.input new.completion new.fifo_error new.descriptor_error))
+    ((write_states world 0x83 value One).0 ∙ (ap (λ (d : Descriptor). settled_state world.registers.input d world.input) status ∙ state_same world.registers.input world.input))
+
+-- and what came
+pub write_came : (world : World) (at value : ℕ) (width : Width)
+    → (after_write at width value world).came ≡ settled_came world.registers.input (written world.registers at width value).input world.came
+write_came world at value width =
+    (parts (effects_of world.registers at width value).reset (effects_of world.registers at width value).left_reset (registers_written (written world.registers at width value) world)).3
+
 -- ---- the FIFO
 
 fresh : (fifo : ℕ) → IsWithinFifo 0 0 fifo
 fresh fifo = record { behind = omega arith; ahead = omega arith }
 
-settled_fifo : (rises : Bool) (state : StreamState) (fifo : ℕ) → IsWithinFifo state.left (length state.entered) fifo
+pub settled_fifo : (rises : Bool) (state : StreamState) (fifo : ℕ) → IsWithinFifo state.left (length state.entered) fifo
     → let after : StreamState = if rises then begun else state in IsWithinFifo after.left (length after.entered) fifo
 settled_fifo true state fifo holds = fresh fifo
 settled_fifo false state fifo holds = holds

@@ -34,6 +34,11 @@ pub record HasListApart (memory : List ℕ) (stream : Stream) : Type 0 where
   pub apart : (offset : ℕ) → offset < list_size stream.descriptor
       → IsOutsideBuffers memory stream (list_address stream.descriptor + offset)
 
+-- the list lies outside the buffers that are named
+abbrev pub HasListOutsideBuffers : World → Type 0
+HasListOutsideBuffers world = (offset : ℕ) → offset < list_size world.registers.input
+    → IsOutsideBuffers world.memory (input_of world) (list_address world.registers.input + offset)
+
 -- while it runs
 abbrev pub KeepsListApart : World → Type 0
 KeepsListApart world = is_running world.registers.input ≡ true → HasListApart world.memory (input_of world)

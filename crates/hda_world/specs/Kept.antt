@@ -1,6 +1,7 @@
 -- What is kept by every move of the device is kept by every list of steps. A move ends where a schedule can stop: a
--- command was handed over whole, a batch of responses was written and flagged, a byte was fetched, a link frame passed
--- whole. Each move carries its guard, and those that come where a guard fails its negation. This project's own.
+-- command was handed over whole, a batch of responses was written and flagged, a byte was fetched or stored, a link
+-- frame passed whole, of which the input stream's part is a move of its own, the last. Each move carries its guard, and
+-- those that come where a guard fails its negation. This project's own.
 use Rattle.std.specs.Prelude.{◌≡◌, ◌<◌, ◌≤◌, ℕ, ◌+◌, Bool, true, false, List, [], ◌∷◌, ◌++◌, length, drop}
 use Rattle.codec_graph.specs.declared.waiting.Waiting.{Waiting}
 use Rattle.hda_registers.specs.Fields.{is_out_of_reset, is_running, list_address}
@@ -19,7 +20,7 @@ use Rattle.hda_world.specs.Worlds.{World, codec_at, output_of, with_output, inpu
 use Rattle.hda_world.specs.Arriving.{arriving}
 use Rattle.hda_world.specs.Steps.{address_of, is_busy, handed, waiting_of, sent, lost, responded, discovered, passed}
 use Rattle.hda_world.specs.Steps.{output_framed, plugged_at, with_intake, storage_of, with_storage}
-use Rattle.hda_world.specs.Leaving.{DescriptorStays}
+use Rattle.hda_world.specs.Leaving.{DescriptorStays, WentOn}
 
 -- the moves of the codecs are kept
 pub record KeptByCodecs (Holds : World → Type 0) : Type 0 where
@@ -144,6 +145,7 @@ pub record Kept (Holds : World → Type 0) : Type 0 where
       → can_respond world.registers ≡ true → batch world.registers world.waiting ≡ response ∷ rest
       → Holds (responded (response ∷ rest) world)
   pub bytes : KeptByBytes Holds
+  pub input : KeptByInput Holds
   -- a link frame passes while the output stream does not run; in that of the discovery the codecs' bits of the state
   -- change status are set
   pub passes : (world : World) → Holds world → is_out_of_reset world.registers.global ≡ true
@@ -190,6 +192,7 @@ pub record KeptSingly (Holds : World → Type 0) : Type 0 where
       → can_respond world.registers ≡ true → world.waiting ≡ response ∷ rest → Holds (wrote_one response world)
   pub flags : (world : World) → Holds world → can_respond world.registers ≡ true → Holds (flagged world)
   pub bytes : KeptByBytes Holds
+  pub input : KeptByInput Holds
   pub ticks : (world : World) → Holds world → is_out_of_reset world.registers.global ≡ true → Holds (ticked world)
   pub announces : (world : World) → Holds world → is_out_of_reset world.registers.global ≡ true
       → world.frames ≡ FRAMES_TO_DISCOVERY → Holds (announced world)
@@ -206,12 +209,14 @@ pub record InputChange : Type 0 where
 abbrev pub input_moved : InputChange → World → World
 input_moved change world = record (with_input change.stream world) { memory = change.memory; came = change.came }
 
--- it runs, memory keeps its size, and of its descriptor LPIB and the status bits alone change, and RUN where it stops
+-- it runs, memory keeps its size, of its descriptor LPIB and the status bits alone change, and RUN where it stops, and
+-- what came is kept
 pub record IsInputMove (world : World) (change : InputChange) : Type 0 where
   pub out : is_out_of_reset world.registers.global ≡ true
   pub runs : is_running world.registers.input ≡ true
   pub size : length change.memory ≡ length world.memory
   pub descriptor : DescriptorStays world.registers.input change.stream.descriptor
+  pub came : WentOn world.came change.came
 
 -- every move of it is kept
 abbrev pub KeptByMoves : (World → Type 0) → Type 0

@@ -64,6 +64,7 @@ pub record StepsLeave (old new : World) : Type 0 where
   pub commands : WentOn old.commands new.commands
   pub written : WentOn old.written new.written
   pub carried : WentOn old.carried new.carried
+  pub came : WentOn old.came new.came
 
 -- what an event leaves alone that is no step of the device: an access changes the registers or a piece of memory, and
 -- of the codecs nothing but what waits at them, which a reset drops

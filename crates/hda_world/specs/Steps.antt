@@ -140,10 +140,6 @@ output_framed found world = record (with_output (after_frame found (output_of wo
   carried = world.carried ++ map (frame_carried world) (carried_by found (output_of world));
 }
 
-abbrev pub frame_step : World → World
-frame_step world =
-    if is_out_of_reset world.registers.global then output_framed (frame_of (output_of world)) (passed world) else world
-
 -- the world with what a link frame left of the input stream
 abbrev pub with_intake : Intake → World → World
 with_intake intake world = record (with_input intake.stream world) { came = world.came ++ intake.marks }
@@ -151,6 +147,12 @@ with_intake intake world = record (with_input intake.stream world) { came = worl
 -- the input stream after a link frame
 abbrev pub input_framed : World → World
 input_framed world = with_intake (frame_move world.registers.shape.fifo (arriving world) (input_of world)) world
+
+-- the output stream first, and then the input stream
+abbrev pub frame_step : World → World
+frame_step world =
+    if is_out_of_reset world.registers.global
+    then input_framed (output_framed (frame_of (output_of world)) (passed world)) else world
 
 -- n moves in a row
 abbrev pub times : ℕ → (World → World) → World → World
@@ -174,10 +176,11 @@ with_storage storage world = record (with_input storage.stream world) { memory =
 abbrev pub input_stored : ℕ → World → World
 input_stored most world = with_storage (store most (storage_of world)) world
 
--- descriptor 1 is the output stream's; the input stream of descriptor 0 does not move yet
+-- descriptor 1 is the output stream's, descriptor 0 the input stream's
 abbrev pub fetch_step : ℕ → ℕ → World → World
 fetch_step stream most world =
-    if is_out_of_reset world.registers.global && stream == 1 then output_fetched most world else world
+    if is_out_of_reset world.registers.global && stream == 1 then output_fetched most world
+    else (if is_out_of_reset world.registers.global && stream == 0 then input_stored most world else world)
 
 -- ---- presence
 

@@ -1,15 +1,18 @@
 -- What holds of the streams at every moment: what a FIFO holds, where the position stands, what was sent or taken. High
 -- Definition Audio 1.0a, 3.3.36, 3.3.37 and 4.5.
-use Rattle.std.specs.Prelude.{◌≡◌, ◌≤◌, ◌+◌, ◌%◌, ℕ, Bool, true, false, List, [], length, take, drop, All, Some}
+use Rattle.std.specs.Prelude.{◌≡◌, ◌≤◌, ◌+◌, ◌%◌, ◌⊎◌, ℕ, Bool, true, false, List, [], ◌∷◌, length, take, drop, All}
+use Rattle.std.specs.Prelude.{Some}
 use Rattle.std.specs.List.{flat_map}
+use Rattle.codec_sound.specs.declared.in_heard.InHeard.TheVariants.{Pin}
 use Rattle.hda_registers.specs.Fields.{Descriptor, is_running}
 use Rattle.hda_registers.specs.Status.{worth}
 use Rattle.stream_format.specs.Cadence.{bytes_of_block}
 use Rattle.stream_format.specs.Layouts.{Layout, layout_of}
 use Rattle.world_streams.specs.Streams.{StreamState, is_ready}
 use Rattle.world_streams.specs.Output.{Carriage, Sent, Missed}
-use Rattle.world_streams.specs.Input.{given_blocks, kept_by_marks}
+use Rattle.world_streams.specs.Input.{given_block, silent_block, given_blocks, kept_by_marks}
 use Rattle.hda_world.specs.Worlds.{World, CarriedFrame, output_of, input_of}
+use Rattle.hda_world.specs.Arriving.{listened}
 
 -- of so many bytes that entered a FIFO of this size so many left it
 pub record IsWithinFifo (left entered fifo : ℕ) : Type 0 where
@@ -72,25 +75,45 @@ HasTakenPosition world =
 abbrev pub ShowsTakenReady : World → Type 0
 ShowsTakenReady world = world.registers.input.fifo_ready ≡ worth (is_ready (input_of world)) 0
 
--- a block of so many bytes came for each mark, and what entered is those that were taken, each once and in order
-pub record AreTaken (size : ℕ) (marks : List Bool) (entered : List ℕ) : Type 0 where
+-- a block is that of the sound with this number, or silence
+abbrev pub IsGivenOrSilent : (size : ℕ) → (sound : List ℕ) → (number : ℕ) → (block : List ℕ) → Type 0
+IsGivenOrSilent size sound number block = (block ≡ given_block size sound number) ⊎ (block ≡ silent_block size)
+
+-- each of some blocks is so, from this number on
+abbrev pub AreGivenOrSilent : (size : ℕ) → (sound : List ℕ) → (from : ℕ) → (blocks : List (List ℕ)) → Type 0
+AreGivenOrSilent size sound from [] = Unit {0}
+AreGivenOrSilent size sound from (block ∷ blocks) =
+    IsGivenOrSilent size sound from block × AreGivenOrSilent size sound (from + 1) blocks
+
+-- a block of so many bytes came for each mark, that of the given sound with the mark's number or silence, and what
+-- entered is those that were taken, each once and in order
+pub record AreTaken (size : ℕ) (sound : List ℕ) (marks : List Bool) (entered : List ℕ) : Type 0 where
   pub blocks : List (List ℕ)
   pub each : All (λ block. length block ≡ size) blocks
+  pub given : AreGivenOrSilent size sound 0 blocks
   pub count : length blocks ≡ length marks
   pub bytes : entered ≡ kept_by_marks marks blocks
 
 -- while it runs with a format
-abbrev pub HasTaken : World → Type 0
-HasTaken world = is_running world.registers.input ≡ true → (layout : Layout)
+abbrev pub HasTakenBlocks : World → Type 0
+HasTakenBlocks world = is_running world.registers.input ≡ true → (layout : Layout)
     → layout_of world.registers.input.format ≡ Some layout
-    → AreTaken (bytes_of_block layout.channels layout.bits) world.came world.input.entered
+    → AreTaken (bytes_of_block layout.channels layout.bits) world.given world.came world.input.entered
 
 -- the blocks of a sound that were taken, of those that came
 abbrev pub taken_sound : (size : ℕ) → (sound : List ℕ) → List Bool → List ℕ
 taken_sound size sound marks = kept_by_marks marks (given_blocks size sound 0 (length marks))
 
--- while it runs with a format, what was taken is the given sound. That is kept while the one converter that takes the
--- stream hears a pin
+-- the one converter that takes the stream hears this pin
+abbrev pub HearsPin : ℕ → World → Type 0
+HearsPin nid world = listened world.registers.input.tag world.registers.input.format world.codecs ≡ Some (Pin nid)
+
+-- CORB's engine has no command to fetch
+abbrev pub HasFetchedAll : World → Type 0
+HasFetchedAll world = world.registers.global.corb_read_pointer ≡ world.registers.global.corb_write_pointer
+
+-- while it runs with a format, what was taken is the given sound. That is kept while the converter hears a pin, which a
+-- command that a codec takes may end
 abbrev pub HasTakenSound : World → Type 0
 HasTakenSound world = is_running world.registers.input ≡ true → (layout : Layout)
     → layout_of world.registers.input.format ≡ Some layout

@@ -3,6 +3,7 @@
 #![tactic(auto)]
 
 mod entry;
+mod input_laws;
 mod journal;
 mod laws;
 mod step;
@@ -10,6 +11,13 @@ mod stream_laws;
 mod world;
 
 pub use entry::{Entry, MemoryPiece};
+pub use input_laws::{
+    accesses_keep_taken, accesses_keep_taken_position, accesses_keep_taken_ready,
+    inputs_begin_in_their_list, steps_keep_taken, steps_keep_taken_order,
+    steps_keep_taken_position, steps_keep_taken_ready, steps_keep_taken_sound,
+    steps_leave_stopped_inputs, steps_write_rirb_and_buffers, the_given_sound_stays,
+    writes_begin_taken_order,
+};
 pub use journal::Journal;
 pub use laws::{
     accesses_compose, codecs_are_apart, discovery_comes_in_the_25th_frame, events_compose,

@@ -13,7 +13,7 @@ use Rattle.hda_world.specs.Worlds.{World, TakenCommand}
 use Rattle.hda_world.specs.Steps.{passed, after_steps}
 use Rattle.hda_world.specs.Events.{after_write}
 use Rattle.hda_world.specs.Kept.{Kept}
-use Rattle.hda_world.proofs.Callers.{frames_after, passed_global, kept_steps, write_registers}
+use Rattle.hda_world.proofs.Callers.{frames_after, passed_global, kept_steps, write_registers, by_moves}
 use Rattle.command_engine.proofs.Callers.{reset_registers}
 use Rattle.laws_bring_up.specs.SettingUp.{IsIdle}
 
@@ -48,6 +48,7 @@ keeps_idle commands = record {
     breaks = λ world holds can room bad. record { idle = holds.idle; commands_are = holds.commands_are };
     refuses = λ world holds must. record { idle = holds.idle; commands_are = holds.commands_are };
   };
+  input = by_moves (IsIdleSince commands) (λ world change holds moves. record { idle = holds.idle; commands_are = holds.commands_are });
   passes = λ world holds out still. record { idle = passed_idle world holds.idle; commands_are = holds.commands_are };
   frames = frames_after (IsIdleSince commands) (λ world holds out. record { idle = passed_idle world holds.idle; commands_are = holds.commands_are }) (record {
     gaps = λ world holds can none. record { idle = holds.idle; commands_are = holds.commands_are };

@@ -13,6 +13,7 @@ use Rattle.hda_registers.specs.declared.shapes.Width.TheVariants.{One, Four}
 use Rattle.hda_registers.specs.declared.places.TheConstants.{INTSTS}
 use Rattle.hda_world.specs.Events.{Event, Read, Write}
 use Rattle.hda_world.specs.Tellings.{Telling, world_of, Makes}
+use Rattle.command_engine.specs.Apart.{IsBesideBoth}
 use Rattle.command_engine.specs.Fetchings as engine
 use Rattle.command_engine.specs.Polling.{asked_of}
 use Rattle.laws_settings.proofs.Callers.{remembers_itself}
@@ -56,8 +57,8 @@ look_all P reads clears made (inr look) =
     (All-cons P (Read INTSTS Four interrupts) (if has_bit interrupts interrupts_at then clear_accesses interrupts stream else []) (reads INTSTS interrupts Four)
     (looks_all P reads clears interrupts stream (has_bit interrupts interrupts_at)))
 
-look_beside : (corb rirb : ℕ) (made : List Event) → (made ≡ []) ⊎ IsLook made → All (engine.IsBeside corb rirb) made
-look_beside corb rirb = look_all (engine.IsBeside corb rirb) (λ at value width. tt {0}) (λ value. record { control = inr (omega arith); rings = inr (omega arith) })
+look_beside : (made : List Event) → (made ≡ []) ⊎ IsLook made → All IsBesideBoth made
+look_beside = look_all IsBesideBoth (λ at value width. tt {0}) (λ value. (record { control = inr (omega arith); rings = inr (omega arith) }, record { control = omega arith; descriptor = inr (omega arith) }))
 
 -- ---- over them
 
@@ -79,7 +80,7 @@ module _ (means : Means) (verbs : RawCodec → List Command) (graphs : List RawC
       let asking : IsAsking means verbs graphs task (trail_of task lines after).written bring_up (world_of after) = record {
         from = a.from;
         read = a.read;
-        stands = stands_row a.from a.read corb rirb rings made before after makes (look_beside corb rirb made looks) a.stands;
+        stands = stands_row a.from a.read corb rirb rings made before after makes (look_beside made looks) a.stands;
         agree = subst (λ (written : ℕ). AnswersAgree (asked_of rings.outstanding) written a.read (world_of after).written) same
             (subst (λ (all : List Response). AnswersAgree (asked_of rings.outstanding) written a.read all) (sym on.written)
             (notes.grows (asked_of rings.outstanding) written a.read (world_of before).written on.more_written a.agree));

@@ -12,7 +12,7 @@ use Rattle.hda_world.specs.Worlds.{World}
 use Rattle.hda_world.specs.Steps.{passed}
 use Rattle.hda_world.specs.Events.{Event, Stepped, Begin, End, Read, Write, DmaRead, DmaWrite, happens, after, after_write}
 use Rattle.hda_world.specs.Kept.{Kept}
-use Rattle.hda_world.proofs.Callers.{kept_step, frames_after, passed_global, plain_write}
+use Rattle.hda_world.proofs.Callers.{kept_step, frames_after, passed_global, plain_write, by_moves}
 use Rattle.laws_hearing.specs.Steady.{settings_of, AreIdleBy, AreIdle, LeavesCommands}
 use Rattle.laws_hearing.proofs.Steadying.{settings_with}
 use Rattle.laws_hearing.proofs.SteadyEvents.{not_pointers}
@@ -47,6 +47,7 @@ module _ (codecs : List CodecState) where
       breaks = λ world idle can room bad. idle;
       refuses = λ world idle must. idle;
     };
+    input = by_moves Idle (λ world change idle moves. idle);
     passes = λ world idle out still. passed_idle world idle;
     frames = frames_after Idle (λ world idle out. passed_idle world idle) (record {
       gaps = λ world idle can none. idle;

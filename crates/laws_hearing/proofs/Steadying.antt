@@ -18,7 +18,7 @@ use Rattle.hda_world.specs.Worlds.{World, CarriedFrame, with_codec, output_of}
 use Rattle.hda_world.specs.Steps.{passed, after_steps}
 use Rattle.hda_world.specs.Kept.{Kept, KeptByFrames, unmoved}
 use Rattle.hda_world.specs.Streaming.{bytes_of}
-use Rattle.hda_world.proofs.Callers.{kept_steps, frames_after, passed_global}
+use Rattle.hda_world.proofs.Callers.{kept_steps, frames_after, passed_global, by_moves}
 use Rattle.heard_frames.specs.HeardLists.{block_size}
 use Rattle.laws_hearing.specs.Steady.{settings_of, IsSteadyFrame, SteadyBy, Steady}
 
@@ -102,6 +102,7 @@ module _ (codecs : List CodecState) (tag word : ℕ) (layout : Layout) (from : �
       breaks = λ world steady can room bad. record { settings = steady.settings; idle = steady.idle; tag_is = steady.tag_is; word_is = steady.word_is; begun = steady.begun; frames = steady.frames };
       refuses = λ world steady must. record { settings = steady.settings; idle = steady.idle; tag_is = steady.tag_is; word_is = steady.word_is; begun = steady.begun; frames = steady.frames };
     };
+    input = by_moves Holds (λ world change steady moves. record { settings = steady.settings; idle = steady.idle; tag_is = steady.tag_is; word_is = steady.word_is; begun = steady.begun; frames = steady.frames });
     passes = λ world steady out still. passed_kept world steady;
     frames = frames_after Holds (λ world steady out. passed_kept world steady) frames_kept;
   }

@@ -12,7 +12,7 @@ use Rattle.world_streams.specs.Output.{frame_of}
 use Rattle.schedule_reader.specs.declared.schedule.Group.{Group}
 use Rattle.schedule_reader.specs.Counts.{step_frames, group_frames}
 use Rattle.hda_world.specs.Worlds.{World, codec_at, output_of}
-use Rattle.hda_world.specs.Steps.{address_of, is_busy, handed, handed_next, sent_first, waiting_of as waiting_of, lost, passed, output_framed, frame_step, times, output_fetched, after_step, after_steps}
+use Rattle.hda_world.specs.Steps.{address_of, is_busy, handed, handed_next, sent_first, waiting_of as waiting_of, lost, passed, output_framed, input_framed, frame_step, times, output_fetched, input_stored, after_step, after_steps}
 use Rattle.hda_world.specs.Events.{Event, Stepped, Begin, End, Read, Write, DmaRead, DmaWrite, happens, after}
 use Rattle.hda_world.specs.Leaving.{StepsLeave, graphs_of}
 use Rattle.hda_world.proofs.Callers.{kept_steps, steps_leave, access_leaves}
@@ -101,7 +101,7 @@ sent_grows address [] world = omega arith
 sent_grows address (item ∷ items) world = omega arith
 
 frame_grows : (world : World) → world.frames ≤ (frame_step world).frames
-frame_grows world = if_grows (is_out_of_reset world.registers.global) (output_framed (frame_of (output_of world)) (passed world)) world world.frames (omega arith) (omega arith)
+frame_grows world = if_grows (is_out_of_reset world.registers.global) (input_framed (output_framed (frame_of (output_of world)) (passed world))) world world.frames (omega arith) (omega arith)
 
 times_grow : (n : ℕ) (world : World) → world.frames ≤ (times n frame_step world).frames
 times_grow zero world = omega arith
@@ -112,7 +112,9 @@ step_grows step.Corb world = handed_grows (next_word world.registers world.memor
 step_grows (step.Answer codec) world = if_grows _ (sent_first codec (waiting_of (codec_at codec world.codecs)) world) world world.frames (sent_grows codec (waiting_of (codec_at codec world.codecs)) world) (omega arith)
 step_grows (step.Lose codec) world = if_grows (is_out_of_reset world.registers.global) (lost codec world) world world.frames (omega arith) (omega arith)
 step_grows step.Rirb world = omega arith
-step_grows (step.Fetch stream most) world = if_grows _ (output_fetched most world) world world.frames (omega arith) (omega arith)
+step_grows (step.Fetch stream most) world =
+    if_grows _ (output_fetched most world) _ world.frames (omega arith)
+    (if_grows _ (input_stored most world) world world.frames (omega arith) (omega arith))
 step_grows (step.Link frames) world = times_grow frames world
 step_grows (step.Plug codec nid) world = omega arith
 step_grows (step.Unplug codec nid) world = omega arith

@@ -13,7 +13,7 @@ use Rattle.hda_registers.specs.Fields.{entries_of, is_out_of_reset}
 use Rattle.world_rings.specs.declared.response.Response.{Response}
 use Rattle.world_streams.specs.Output.{frame_of}
 use Rattle.hda_world.specs.Worlds.{World, output_of}
-use Rattle.hda_world.specs.Steps.{after_step, frame_step, output_fetched, output_framed, passed, times}
+use Rattle.hda_world.specs.Steps.{after_step, frame_step, output_fetched, input_stored, output_framed, input_framed, passed, times}
 use Rattle.hda_world.specs.Events.{Event, Stepped, Begin, End, Read, Write, DmaRead, DmaWrite, happens, after}
 use Rattle.hda_world.proofs.Callers.{access_leaves}
 use Rattle.command_engine.specs.declared.ring_places.RingPlaces.{RingPlaces}
@@ -54,7 +54,7 @@ notes_both all trail [] back = refl
 notes_both all trail (event ∷ front) back = notes_both all (noted_by all trail event) front back
 
 -- steps of streams write nothing to RIRB
-frame_written : (b : Bool) (world : World) → (if b then output_framed (frame_of (output_of world)) (passed world) else world).written ≡ world.written
+frame_written : (b : Bool) (world : World) → (if b then input_framed (output_framed (frame_of (output_of world)) (passed world)) else world).written ≡ world.written
 frame_written true world = refl
 frame_written false world = refl
 
@@ -62,16 +62,17 @@ frames_written : (count : ℕ) (world : World) → (times count frame_step world
 frames_written zero world = refl
 frames_written (suc count) world = frames_written count (frame_step world) ∙ frame_written (is_out_of_reset world.registers.global) world
 
-fetch_written : (b : Bool) (most : ℕ) (world : World) → (if b then output_fetched most world else world).written ≡ world.written
-fetch_written true most world = refl
-fetch_written false most world = refl
+fetch_written : (b c : Bool) (most : ℕ) (world : World) → (if b then output_fetched most world else (if c then input_stored most world else world)).written ≡ world.written
+fetch_written true c most world = refl
+fetch_written false true most world = refl
+fetch_written false false most world = refl
 
 pub step_written : (one : Step) (world : World) → IsOfStreams one → (after_step one world).written ≡ world.written
 step_written step.Corb world is = absurd is
 step_written (step.Answer codec) world is = absurd is
 step_written (step.Lose codec) world is = absurd is
 step_written step.Rirb world is = absurd is
-step_written (step.Fetch stream most) world is = fetch_written _ most world
+step_written (step.Fetch stream most) world is = fetch_written _ _ most world
 step_written (step.Link count) world is = frames_written count world
 step_written (step.Plug codec nid) world is = absurd is
 step_written (step.Unplug codec nid) world is = absurd is

@@ -93,7 +93,9 @@ step_held step.Corb world is held = absurd is
 step_held (step.Answer codec) world is held = absurd is
 step_held (step.Lose codec) world is held = absurd is
 step_held step.Rirb world is held = absurd is
-step_held (step.Fetch stream most) world is held = if_same _ _ world (and_false (is_out_of_reset world.registers.global) (stream == 1) held)
+step_held (step.Fetch stream most) world is held =
+    if_same (is_out_of_reset world.registers.global && stream == 1) _ _ (and_false (is_out_of_reset world.registers.global) (stream == 1) held)
+    ∙ if_same (is_out_of_reset world.registers.global && stream == 0) _ world (and_false (is_out_of_reset world.registers.global) (stream == 0) held)
 step_held (step.Link count) world is held = frames_held count world held
 step_held (step.Plug codec nid) world is held = absurd is
 step_held (step.Unplug codec nid) world is held = absurd is

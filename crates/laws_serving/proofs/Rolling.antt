@@ -17,7 +17,7 @@ use Rattle.world_steps.specs.declared.Step.{Step}
 use Rattle.world_steps.specs.declared.Step.TheVariants as step
 use Rattle.heard_frames.specs.HeardLists.{block_size}
 use Rattle.hda_world.specs.Worlds.{World, output_of}
-use Rattle.hda_world.specs.Steps.{after_step, after_steps, frame_step, output_framed, output_fetched, passed, times}
+use Rattle.hda_world.specs.Steps.{after_step, after_steps, frame_step, output_framed, input_framed, output_fetched, input_stored, passed, times}
 use Rattle.hda_world.specs.Events.{Event, Stepped, Begin, End, Read, Write, DmaRead, DmaWrite, IsNoStep, happens, after}
 use Rattle.hda_world.specs.Leaving.{StreamsStay, StepsLeave}
 use Rattle.hda_world.specs.Streaming.{HasPosition, HasSent}
@@ -59,17 +59,17 @@ due_most : (layout : Option Layout) (frame : ℕ) → due_by layout frame ≤ mo
 due_most None frame = omega arith
 due_most (Some layout) frame = mul-le (blocks_of layout.rate frame) (bytes_of_block layout.channels layout.bits) (most_blocks layout.rate) (bytes_of_block layout.channels layout.bits) (bounded layout.rate frame) (omega arith)
 
-framed_by : (most : ℕ) (found : Frame) (world : World) → due (output_of world) ≤ most → Moves most world (output_framed found (passed world))
-framed_by most Stopped world few = moves_none most world (output_framed Stopped (passed world)) refl (omega arith) refl
-framed_by most Broken world few = moves_none most world (output_framed Broken (passed world)) refl (omega arith) refl
-framed_by most Gap world few = moves_none most world (output_framed Gap (passed world)) refl (omega arith) refl
+framed_by : (most : ℕ) (found : Frame) (world : World) → due (output_of world) ≤ most → Moves most world (input_framed (output_framed found (passed world)))
+framed_by most Stopped world few = moves_none most world (input_framed (output_framed Stopped (passed world))) refl (omega arith) refl
+framed_by most Broken world few = moves_none most world (input_framed (output_framed Broken (passed world))) refl (omega arith) refl
+framed_by most Gap world few = moves_none most world (input_framed (output_framed Gap (passed world))) refl (omega arith) refl
 framed_by most Blocks world few =
     let one : world.frames + 1 - world.frames ≡ 1 = omega arith in
     let wide : most * (world.frames + 1 - world.frames) ≡ most * 1 = ap (λ (n : ℕ). most * n) one in
     record { up = omega arith; few = omega (arith, few, wide); later = omega arith; format = refl }
-framed_by most Hole world few = moves_none most world (output_framed Hole (passed world)) refl (omega arith) refl
+framed_by most Hole world few = moves_none most world (input_framed (output_framed Hole (passed world))) refl (omega arith) refl
 
-frame_if : (most : ℕ) (out : Bool) (world : World) → due (output_of world) ≤ most → Moves most world (if out then output_framed (frame_of (output_of world)) (passed world) else world)
+frame_if : (most : ℕ) (out : Bool) (world : World) → due (output_of world) ≤ most → Moves most world (if out then input_framed (output_framed (frame_of (output_of world)) (passed world)) else world)
 frame_if most true world few = framed_by most (frame_of (output_of world)) world few
 frame_if most false world few = moves_none most world world refl (omega arith) refl
 
@@ -109,11 +109,12 @@ moves_place (suc count) fifo memory stream =
     let one = fetch_place fifo memory stream in
     let rest = moves_place count fifo memory (fetch_move fifo memory stream) in record { left = rest.left ∙ one.left; format = rest.format ∙ one.format }
 
-fetch_if : (b : Bool) (most bytes : ℕ) (world : World) → Moves most world (if b then output_fetched bytes world else world)
-fetch_if true most bytes world =
+fetch_if : (b c : Bool) (most bytes : ℕ) (world : World) → Moves most world (if b then output_fetched bytes world else (if c then input_stored bytes world else world))
+fetch_if true c most bytes world =
     let place = moves_place bytes world.registers.shape.fifo world.memory (output_of world) in
     moves_none most world (output_fetched bytes world) place.left (omega arith) place.format
-fetch_if false most bytes world = moves_none most world world refl (omega arith) refl
+fetch_if false true most bytes world = moves_none most world (input_stored bytes world) refl (omega arith) refl
+fetch_if false false most bytes world = moves_none most world world refl (omega arith) refl
 
 -- ---- every step
 
@@ -126,7 +127,8 @@ step_moves most word step.Corb world is most_is = quiet_step most step.Corb worl
 step_moves most word (step.Answer codec) world is most_is = quiet_step most (step.Answer codec) world (step_leaves_streams (step.Answer codec) world tt)
 step_moves most word (step.Lose codec) world is most_is = quiet_step most (step.Lose codec) world (step_leaves_streams (step.Lose codec) world tt)
 step_moves most word step.Rirb world is most_is = quiet_step most step.Rirb world (step_leaves_streams step.Rirb world tt)
-step_moves most word (step.Fetch stream bytes) world is most_is = fetch_if (is_out_of_reset world.registers.global && stream == 1) most bytes world
+step_moves most word (step.Fetch stream bytes) world is most_is =
+    fetch_if (is_out_of_reset world.registers.global && stream == 1) (is_out_of_reset world.registers.global && stream == 0) most bytes world
 step_moves most word (step.Link count) world is most_is = frames_move most word count world is most_is
 step_moves most word (step.Plug codec nid) world is most_is = quiet_step most (step.Plug codec nid) world (step_leaves_streams (step.Plug codec nid) world tt)
 step_moves most word (step.Unplug codec nid) world is most_is = quiet_step most (step.Unplug codec nid) world (step_leaves_streams (step.Unplug codec nid) world tt)

@@ -11,7 +11,7 @@ use Rattle.world_streams.specs.Streams.{Stream, due, due_by, held, held_bytes, i
 use Rattle.world_streams.specs.Output.{Frame, Stopped, Broken, Gap, Blocks, Hole, Sent, frame_of, has_room, next_of, byte_came, fetch_move, moves}
 use Rattle.world_streams.proofs.Callers.{fetch-stopped}
 use Rattle.hda_world.specs.Worlds.{World, CarriedFrame, output_of}
-use Rattle.hda_world.specs.Steps.{after_steps, frame_step, fetch_step, frame_carried, output_framed, output_fetched, passed, times}
+use Rattle.hda_world.specs.Steps.{after_steps, frame_step, fetch_step, frame_carried, output_framed, input_framed, output_fetched, input_stored, passed, times}
 use Rattle.hda_world.specs.Leaving.{StepsLeave}
 use Rattle.hda_world.proofs.Callers.{steps_leave, passed_out}
 use Rattle.laws_serving.specs.Turns.{CarriedBytes}
@@ -81,7 +81,7 @@ pub record IsFull (fifo : ℕ) (old new : World) : Type 0 where
 fetch_fills : (most : ℕ) (world : World) → is_out_of_reset world.registers.global ≡ true → world.output.left ≤ length world.output.entered → world.registers.shape.fifo ≤ most
     → is_running (fetch_step 1 most world).registers.output ≡ true → IsFull world.registers.shape.fifo world (fetch_step 1 most world)
 fetch_fills most world out behind enough runs =
-    let is : fetch_step 1 most world ≡ output_fetched most world = ap (λ (out : Bool). if out && 1 == 1 then output_fetched most world else world) out in
+    let is : fetch_step 1 most world ≡ output_fetched most world = ap (λ (out : Bool). if out && 1 == 1 then output_fetched most world else (if out && 1 == 0 then input_stored most world else world)) out in
     let fetched = fills world.registers.shape.fifo world.memory most (output_of world) (ap (λ (now : World). is_running now.registers.output) (sym is) ∙ runs) in
     let left = fetched.left in
     subst (IsFull world.registers.shape.fifo world) (sym is) (record {
@@ -138,10 +138,10 @@ module _ (block word : ℕ) (some : 1 ≤ block) (one_block : (frame : ℕ) → 
       → ServesOne block word world (frame_step world)
   frame_serves world out word_is enough runs =
       let due_of = due_is world word_is in
-      let steps : frame_step world ≡ output_framed (frame_of (output_of world)) (passed world) = ap (λ (out : Bool). if out then output_framed (frame_of (output_of world)) (passed world) else world) out in
+      let steps : frame_step world ≡ input_framed (output_framed (frame_of (output_of world)) (passed world)) = ap (λ (out : Bool). if out then input_framed (output_framed (frame_of (output_of world)) (passed world)) else world) out in
       let found : frame_of (output_of world) ≡ Blocks =
       finds_blocks world (is_running world.registers.output) (is_usable world.registers.output) refl due_of enough (ap (λ (now : World). is_running now.registers.output) (sym steps) ∙ runs) in
-      let is : frame_step world ≡ output_framed Blocks (passed world) = steps ∙ ap (λ (found : Frame). output_framed found (passed world)) found in
+      let is : frame_step world ≡ input_framed (output_framed Blocks (passed world)) = steps ∙ ap (λ (found : Frame). input_framed (output_framed found (passed world))) found in
       let sent = take (due (output_of world)) (held_bytes world.output) in
       let there = length-drop world.output.left world.output.entered in
       subst (ServesOne block word world) (sym is) (record {

@@ -16,7 +16,7 @@ use Rattle.world_streams.specs.Output.{frame_of}
 use Rattle.world_steps.specs.declared.Step.{Step}
 use Rattle.world_steps.specs.declared.Step.TheVariants as step
 use Rattle.hda_world.specs.Worlds.{World, TakenCommand, codec_at, with_codec, output_of}
-use Rattle.hda_world.specs.Steps.{address_of, taking, is_busy, handed, handed_next, waiting_of, responses_of, sent_first, sent, responded, passed, output_framed, frame_step, output_fetched, times, corb_step, rirb_step, after_step}
+use Rattle.hda_world.specs.Steps.{address_of, taking, is_busy, handed, handed_next, waiting_of, responses_of, sent_first, sent, responded, passed, output_framed, input_framed, frame_step, output_fetched, input_stored, times, corb_step, rirb_step, after_step}
 use Rattle.hda_world.proofs.Callers.{absent, found_all, kept_step, passed_global, responded_none}
 use Rattle.command_engine.specs.declared.ring_places.RingPlaces.{RingPlaces}
 use Rattle.std.specs.Option.{is_some}
@@ -44,16 +44,17 @@ stays from read world serves = (serves, record { taken = omega arith; written = 
 
 -- ---- fetches and link frames
 
-fetch_if : (from read most : ℕ) (b : Bool) (world : World) → Serves from read world → Kept from read world (if b then output_fetched most world else world)
-fetch_if from read most true world serves = (serves, record { taken = omega arith; written = omega arith; sent = omega arith; coming = λ coming. coming; there = λ address. refl })
-fetch_if from read most false world serves = stays from read world serves
+fetch_if : (from read most : ℕ) (b c : Bool) (world : World) → Serves from read world → Kept from read world (if b then output_fetched most world else (if c then input_stored most world else world))
+fetch_if from read most true c world serves = (serves, record { taken = omega arith; written = omega arith; sent = omega arith; coming = λ coming. coming; there = λ address. refl })
+fetch_if from read most false true world serves = (serves, record { taken = omega arith; written = omega arith; sent = omega arith; coming = λ coming. coming; there = λ address. refl })
+fetch_if from read most false false world serves = stays from read world serves
 
 serves_global : (from read : ℕ) (world : World) (global : Global) (clock status : ℕ) → global ≡ record world.registers.global { wall_clock = clock; state_status = status } → Serves from read world → ServesBy from read global world.codecs world.waiting world.commands world.written
 serves_global from read world global clock status same serves =
     subst (λ (global : Global). ServesBy from read global world.codecs world.waiting world.commands world.written) (sym same)
     (record { corb_runs = serves.corb_runs; no_reset = serves.no_reset; rirb_runs = serves.rirb_runs; flag = serves.flag; asked = serves.asked; all_asked = serves.all_asked; read_asked = serves.read_asked; none_lost = serves.none_lost })
 
-frame_if : (from read : ℕ) (b : Bool) (world : World) → Serves from read world → Kept from read world (if b then output_framed (frame_of (output_of world)) (passed world) else world)
+frame_if : (from read : ℕ) (b : Bool) (world : World) → Serves from read world → Kept from read world (if b then input_framed (output_framed (frame_of (output_of world)) (passed world)) else world)
 frame_if from read true world serves =
     let same = passed_global world in (
       serves_global from read world (passed world).registers.global (framed world.registers).global.wall_clock (passed world).registers.global.state_status same serves,
@@ -336,7 +337,8 @@ module _ (from read corb rirb : ℕ) (rings : RingPlaces) where
   step_kept (step.Answer codec) world is served has = answer_if from read (is_out_of_reset world.registers.global && nat_lt (length world.waiting) MOST_WAITING) world codec served.stands.ascend served.serves
   step_kept (step.Lose codec) world is served has = cc
   step_kept step.Rirb world is served has = rirb_by from read (can_respond world.registers) world refl served.stands.reading.within served.serves
-  step_kept (step.Fetch stream most) world is served has = fetch_if from read most (is_out_of_reset world.registers.global && stream == 1) world served.serves
+  step_kept (step.Fetch stream most) world is served has =
+      fetch_if from read most (is_out_of_reset world.registers.global && stream == 1) (is_out_of_reset world.registers.global && stream == 0) world served.serves
   step_kept (step.Link count) world is served has = frames from read count world served.serves
   step_kept (step.Plug codec nid) world is served has = cc
   step_kept (step.Unplug codec nid) world is served has = cc

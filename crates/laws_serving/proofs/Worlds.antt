@@ -10,7 +10,7 @@ use Rattle.world_steps.specs.declared.Step.{Step}
 use Rattle.world_steps.specs.declared.Step.TheVariants as step
 use Rattle.schedule_reader.specs.Counts.{step_frames}
 use Rattle.hda_world.specs.Worlds.{World, output_of}
-use Rattle.hda_world.specs.Steps.{after_step, frame_step, output_fetched, output_framed, passed, times}
+use Rattle.hda_world.specs.Steps.{after_step, frame_step, output_fetched, input_stored, output_framed, input_framed, passed, times}
 use Rattle.hda_world.specs.Events.{Event, Stepped, Begin, End, Read, Write, DmaRead, DmaWrite, IsNoStep, happens, after_write, registers_written}
 use Rattle.hda_world.proofs.Callers.{passed_global, plain_write, kept_step, frames_count}
 use Rattle.driver_progress.specs.Beginning.{KeepsTime}
@@ -34,7 +34,7 @@ pub link_then : (old middle new : World) → SameLink old middle → SameLink mi
 link_then old middle new first second =
     record { codecs = second.codecs ∙ first.codecs; waiting = second.waiting ∙ first.waiting; commands = second.commands ∙ first.commands; written = second.written ∙ first.written }
 
-frame_link : (b : Bool) (world : World) → SameLink world (if b then output_framed (frame_of (output_of world)) (passed world) else world)
+frame_link : (b : Bool) (world : World) → SameLink world (if b then input_framed (output_framed (frame_of (output_of world)) (passed world)) else world)
 frame_link true world = record { codecs = refl; waiting = refl; commands = refl; written = refl }
 frame_link false world = link_same world
 
@@ -43,16 +43,17 @@ frames_link zero world = link_same world
 frames_link (suc count) world =
     link_then world (frame_step world) (times count frame_step (frame_step world)) (frame_link (is_out_of_reset world.registers.global) world) (frames_link count (frame_step world))
 
-fetch_link : (b : Bool) (most : ℕ) (world : World) → SameLink world (if b then output_fetched most world else world)
-fetch_link true most world = record { codecs = refl; waiting = refl; commands = refl; written = refl }
-fetch_link false most world = link_same world
+fetch_link : (b c : Bool) (most : ℕ) (world : World) → SameLink world (if b then output_fetched most world else (if c then input_stored most world else world))
+fetch_link true c most world = record { codecs = refl; waiting = refl; commands = refl; written = refl }
+fetch_link false true most world = record { codecs = refl; waiting = refl; commands = refl; written = refl }
+fetch_link false false most world = link_same world
 
 pub step_link : (one : Step) (world : World) → IsOfStreams one → SameLink world (after_step one world)
 step_link step.Corb world is = absurd is
 step_link (step.Answer codec) world is = absurd is
 step_link (step.Lose codec) world is = absurd is
 step_link step.Rirb world is = absurd is
-step_link (step.Fetch stream most) world is = fetch_link _ most world
+step_link (step.Fetch stream most) world is = fetch_link _ _ most world
 step_link (step.Link count) world is = frames_link count world
 step_link (step.Plug codec nid) world is = absurd is
 step_link (step.Unplug codec nid) world is = absurd is
@@ -82,7 +83,7 @@ passed_same world =
     let same = passed_global world in
     same ∙ ap (λ (clock : ℕ). record world.registers.global { wall_clock = clock; state_status = (passed world).registers.global.state_status }) (sym (ap (λ (global : Global). global.wall_clock) same))
 
-frame_control : (b : Bool) (world : World) → SameControl world (if b then output_framed (frame_of (output_of world)) (passed world) else world)
+frame_control : (b : Bool) (world : World) → SameControl world (if b then input_framed (output_framed (frame_of (output_of world)) (passed world)) else world)
 frame_control true world = record { global = passed_same world; shape = refl }
 frame_control false world = control_same world
 
@@ -91,16 +92,17 @@ frames_control zero world = control_same world
 frames_control (suc count) world =
     control_then world (frame_step world) (times count frame_step (frame_step world)) (frame_control (is_out_of_reset world.registers.global) world) (frames_control count (frame_step world))
 
-fetch_control : (b : Bool) (most : ℕ) (world : World) → SameControl world (if b then output_fetched most world else world)
-fetch_control true most world = record { global = refl; shape = refl }
-fetch_control false most world = control_same world
+fetch_control : (b c : Bool) (most : ℕ) (world : World) → SameControl world (if b then output_fetched most world else (if c then input_stored most world else world))
+fetch_control true c most world = record { global = refl; shape = refl }
+fetch_control false true most world = record { global = refl; shape = refl }
+fetch_control false false most world = control_same world
 
 pub step_control : (one : Step) (world : World) → IsOfStreams one → SameControl world (after_step one world)
 step_control step.Corb world is = absurd is
 step_control (step.Answer codec) world is = absurd is
 step_control (step.Lose codec) world is = absurd is
 step_control step.Rirb world is = absurd is
-step_control (step.Fetch stream most) world is = fetch_control _ most world
+step_control (step.Fetch stream most) world is = fetch_control _ _ most world
 step_control (step.Link count) world is = frames_control count world
 step_control (step.Plug codec nid) world is = absurd is
 step_control (step.Unplug codec nid) world is = absurd is
@@ -169,20 +171,21 @@ out_kept old new same out = ap (λ (global : Global). is_out_of_reset global) sa
 pub step_out : (one : Step) (world : World) → IsOfStreams one → is_out_of_reset world.registers.global ≡ true → is_out_of_reset (after_step one world).registers.global ≡ true
 step_out one world is out = out_kept world.registers.global (after_step one world).registers.global (step_control one world is).global out
 
-frame_counted : (b : Bool) (world : World) → b ≡ true → (if b then output_framed (frame_of (output_of world)) (passed world) else world).frames ≡ world.frames + 1
+frame_counted : (b : Bool) (world : World) → b ≡ true → (if b then input_framed (output_framed (frame_of (output_of world)) (passed world)) else world).frames ≡ world.frames + 1
 frame_counted true world is = refl
 frame_counted false world is = cc
 
-fetch_counted : (b : Bool) (most : ℕ) (world : World) → (if b then output_fetched most world else world).frames ≡ world.frames + 0
-fetch_counted true most world = omega arith
-fetch_counted false most world = omega arith
+fetch_counted : (b c : Bool) (most : ℕ) (world : World) → (if b then output_fetched most world else (if c then input_stored most world else world)).frames ≡ world.frames + 0
+fetch_counted true c most world = omega arith
+fetch_counted false true most world = omega arith
+fetch_counted false false most world = omega arith
 
 pub step_counted : (one : Step) (world : World) → IsOfStreams one → is_out_of_reset world.registers.global ≡ true → (after_step one world).frames ≡ world.frames + step_frames one
 step_counted step.Corb world is out = absurd is
 step_counted (step.Answer codec) world is out = absurd is
 step_counted (step.Lose codec) world is out = absurd is
 step_counted step.Rirb world is out = absurd is
-step_counted (step.Fetch stream most) world is out = fetch_counted _ most world
+step_counted (step.Fetch stream most) world is out = fetch_counted _ _ most world
 step_counted (step.Link count) world is out = frames_count count world out
 step_counted (step.Plug codec nid) world is out = absurd is
 step_counted (step.Unplug codec nid) world is out = absurd is

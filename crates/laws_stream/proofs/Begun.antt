@@ -16,8 +16,9 @@ use Rattle.hda_world.specs.Tellings.{Telling, world_of, Went, Makes}
 use Rattle.hda_world.specs.Moments.{AreWoven}
 use Rattle.hda_world.proofs.Callers.{world_of-went, after-append, access_leaves, Weaving, woven}
 use Rattle.command_engine.specs.declared.ring_places.RingPlaces.{RingPlaces}
+use Rattle.command_engine.specs.Apart.{IsBesideBoth}
 use Rattle.command_engine.specs.Fetchings as engine
-use Rattle.command_engine.proofs.Callers.{event_keeps, responses_apart}
+use Rattle.command_engine.proofs.Callers.{events_beside_input_keep, responses_apart}
 use Rattle.period_writer.specs.declared.course.Ran.{Ran}
 use Rattle.period_writer.specs.Runs.{Tally, measures, facts_of}
 use Rattle.period_writer.specs.Lines.{line_of}
@@ -57,20 +58,15 @@ before_rests = before_all LeavesRest (λ at value width. tt {0}) (λ value. inr 
 before_idle : (irq : Bool) (first : List Event) → IsBefore irq first → All LeavesCommands first
 before_idle = before_all LeavesCommands (λ at value width. tt {0}) (λ value. record { control = λ e. cc; corb = inr (omega arith) })
 
-before_apart : (corb rirb : ℕ) (irq : Bool) (first : List Event) → IsBefore irq first → All (engine.IsBeside corb rirb) first
-before_apart corb rirb = before_all (engine.IsBeside corb rirb) (λ at value width. tt {0}) (λ value. record { control = inr (omega arith); rings = inr (omega arith) })
+before_apart : (irq : Bool) (first : List Event) → IsBefore irq first → All IsBesideBoth first
+before_apart = before_all IsBesideBoth (λ at value width. tt {0})
+    (λ value. (record { control = inr (omega arith); rings = inr (omega arith) }, record { control = omega arith; descriptor = inr (omega arith) }))
 
-stands_on : (from read corb rirb : ℕ) (rings : RingPlaces) (events : List Event) (world : World) → All (engine.IsBeside corb rirb) events → engine.Stands from read corb rirb rings world → engine.Stands from read corb rirb rings (after events world)
-stands_on from read corb rirb rings [] world all stands = stands
-stands_on from read corb rirb rings (event ∷ events) world all stands =
-    stands_on from read corb rirb rings events (happens world event) (All-tail (engine.IsBeside corb rirb) event events all)
-    (event_keeps from read corb rirb rings responses_apart event world (All-head (engine.IsBeside corb rirb) event events all) stands)
-
-pub stands_row : (from read corb rirb : ℕ) (rings : RingPlaces) (made : List Event) (old new : Telling) → Makes made old new → All (engine.IsBeside corb rirb) made → engine.Stands from read corb rirb rings (world_of old) → engine.Stands from read corb rirb rings (world_of new)
+pub stands_row : (from read corb rirb : ℕ) (rings : RingPlaces) (made : List Event) (old new : Telling) → Makes made old new → All IsBesideBoth made → engine.Stands from read corb rirb rings (world_of old) → engine.Stands from read corb rirb rings (world_of new)
 stands_row from read corb rirb rings made old new makes all stands =
     let weaving = woven makes in
     subst (engine.Stands from read corb rirb rings) (sym (world_of-went old new weaving.events weaving.went))
-    (stands_on from read corb rirb rings weaving.events (world_of old) (woven_all (engine.IsBeside corb rirb) (λ step. tt {0}) made weaving.events weaving.woven all) stands)
+    (events_beside_input_keep from read corb rirb rings responses_apart weaving.events (world_of old) (woven_all IsBesideBoth (λ step. tt {0}) made weaving.events weaving.woven all) stands)
 
 before_silent : (irq : Bool) (first : List Event) → IsBefore irq first → All LeavesSilent first
 before_silent = before_all LeavesSilent (λ at value width. tt {0}) clears_silent
@@ -180,7 +176,7 @@ pub first_sounds : (laws : FirstLaws) (on : Laws) (pcm : List ℕ) (irq : Bool) 
 first_sounds laws on pcm irq budget old new writer writer' supply made before after from read corb rirb begins stays is_all silent rests stands idle apart small =
     let codecs = (world_of before).codecs in
     let resting = laws.rests writer.geometry.fifo begins.first before begins.begins begins.first_made (before_rests irq begins.first begins.is_before) rests in
-    let standing = stands_row from read corb rirb old.engine.rings begins.first before begins.begins begins.first_made (before_apart corb rirb irq begins.first begins.is_before) stands in
+    let standing = stands_row from read corb rirb old.engine.rings begins.first before begins.begins begins.first_made (before_apart irq begins.first begins.is_before) stands in
     let idling = idle_row laws (world_of before).codecs begins.first before begins.begins begins.first_made (before_idle irq begins.first begins.is_before) (record { settings = refl; idle = idle }) in
     let tells = begins.tells (laws.can_begin (ring_of writer) from read corb rirb old.engine.rings (world_of begins.begins) resting standing apart) small in
     subst (λ (ring : Ring). StreamSounds (world_of before).codecs ring pcm (tally_of writer') after) (sym (ring_same old new writer writer' stays))

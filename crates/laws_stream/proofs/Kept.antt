@@ -7,7 +7,7 @@ use Rattle.world_rings.specs.Entries.{after_response, after_responses}
 use Rattle.hda_world.specs.Worlds.{World}
 use Rattle.hda_world.specs.Steps.{passed}
 use Rattle.hda_world.specs.Kept.{Kept}
-use Rattle.hda_world.proofs.Callers.{passed_global}
+use Rattle.hda_world.proofs.Callers.{passed_global, by_stopped}
 use Rattle.driver_progress.proofs.Callers.{keeps_time}
 use Rattle.laws_stream.specs.Resting.{Rests}
 
@@ -60,6 +60,7 @@ rests_kept fifo = record {
     breaks = λ world rests can room bad. absurd (runs_not world.registers.output rests.output_stopped can.runs);
     refuses = λ world rests must. absurd (runs_not world.registers.output rests.output_stopped must.runs);
   };
+  input = by_stopped (Rests fifo) (λ world rests. rests.input_stopped);
   passes = λ world rests out still. record {
     fifo_is = rests.fifo_is;
     input_stopped = rests.input_stopped;

@@ -10,7 +10,7 @@ use Rattle.hda_world.specs.Worlds.{World}
 use Rattle.hda_world.specs.Steps.{after_step}
 use Rattle.hda_world.specs.Events.{Event, Stepped, DmaWrite, happens, IsHonest}
 use Rattle.hda_world.specs.Kept.{Kept}
-use Rattle.hda_world.proofs.Callers.{kept_both, kept_step, Lead, lead_both, lead_from}
+use Rattle.hda_world.proofs.Callers.{kept_both, kept_step, Lead, lead_both, lead_from, by_moves}
 use Rattle.period_writer.specs.Places.{place_in, line_writes}
 use Rattle.period_writer.specs.Standing.{Ring, Extent, limit_in, Stands, Paced, bytes_in, size_of, extent_of}
 use Rattle.period_writer.specs.Owning.{Owns}
@@ -101,6 +101,7 @@ fetches_kept number = record {
     breaks = λ world holds can room bad. holds;
     refuses = λ world holds must. holds;
   };
+  input = by_moves (Fetches number) (λ world change holds moves. holds);
   passes = λ world holds out still. holds;
   frames = record {
     gaps = λ world holds can none. holds;

@@ -135,6 +135,13 @@ impl Geometry {
         self.periods
     }
 
+    /// The bytes of the FIFO.
+    pub fn fifo(&self) -> u16
+        ensures { result ≡ self.now.fifo }
+    {
+        self.fifo
+    }
+
     /// The bytes of a period.
     pub fn period_bytes(&self) -> u32
         ensures { result ≡ rings.period_bytes self.now.period }

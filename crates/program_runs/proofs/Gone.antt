@@ -133,8 +133,8 @@ module _ (means : StreamMeaning) (keeps : (format : Format) → Keeps means form
   whole : driven.events ≡ journal
   whole = sym (told ∙ driven.went.journal ∙ ap (λ (telling : Telling). telling.journal ++ driven.events) start)
 
-  end_is : after ≡ telling_from REGION_BYTES machine journal
-  end_is =
+  told_then : after ≡ telling_from REGION_BYTES machine journal
+  told_then =
       ap (λ (world : World). record { start = world; journal = after.journal }) (driven.went.start ∙ ap (λ (telling : Telling). telling.start) start)
       ∙ ap (λ (events : List Event). telling_from REGION_BYTES machine events) (sym told)
 
@@ -150,9 +150,9 @@ module _ (means : StreamMeaning) (keeps : (format : Format) → Keeps means form
   under_way = subst (λ (telling : Telling). UnderWay means format (verbs_meant (means format stream_tag) machine.codecs plans) (graphs_in machine.codecs) task (lines_of schedule) (lines_of schedule) old telling) (sym start) first
 
   has_gone : DriverHasGone (means format TAG) (graphs_in machine.codecs) task (lines_of schedule) driven.ended driven.tally driven.last (telling_from REGION_BYTES machine journal)
-  has_gone = subst (λ (telling : Telling). DriverHasGone (means format TAG) (graphs_in machine.codecs) task (lines_of schedule) driven.ended driven.tally driven.last telling) end_is
+  has_gone = subst (λ (telling : Telling). DriverHasGone (means format TAG) (graphs_in machine.codecs) task (lines_of schedule) driven.ended driven.tally driven.last telling) told_then
       (driven.over (verbs_meant (means format stream_tag) machine.codecs plans) (graphs_in machine.codecs) task (lines_of schedule) can.is
-      (subst IsShort (sym end_is) (short_from machine schedule journal follows limited)) under_way)
+      (subst IsShort (sym told_then) (short_from machine schedule journal follows limited)) under_way)
 
   gone_so : Gone means machine format play task schedule old closed journal
   gone_so = record {
@@ -180,6 +180,13 @@ pub gone : (means : StreamMeaning) → ((format : Format) → Keeps means format
     → IsDriven means old.bring_up.agenda.format play schedule old closed before after → Gone means machine format play task schedule old closed journal
 gone means keeps machine format plans play task schedule old closed before after journal can limited at told drives =
     gone_so means keeps machine format plans play task schedule old closed before after journal can limited at told (subst (λ (f : Format). IsDriven means f play schedule old closed before after) can.format_is drives)
+
+-- what is told at the end
+pub told_at_end : (means : StreamMeaning) → ((format : Format) → Keeps means format) → (machine : Machine) (format : Format) (plans : List Plan) (play : Bool) (task : Task) (schedule : Schedule) (old : Parts) (closed : Closed) (before after : Telling) (journal : List Event)
+    → CanGo means machine format plans play task old → IsLimited schedule → Some before ≡ Some (telling_from REGION_BYTES machine []) → journal ≡ after.journal
+    → IsDriven means old.bring_up.agenda.format play schedule old closed before after → after ≡ telling_from REGION_BYTES machine journal
+told_at_end means keeps machine format plans play task schedule old closed before after journal can limited at told drives =
+    told_then means keeps machine format plans play task schedule old closed before after journal can limited at told (subst (λ (f : Format). IsDriven means f play schedule old closed before after) can.format_is drives)
 
 -- what was used at the last call was written by the recorded runs
 pub used_in_runs : (means : StreamMeaning) → ((format : Format) → Keeps means format) → (machine : Machine) (format : Format) (plans : List Plan) (play : Bool) (task : Task) (schedule : Schedule) (old : Parts) (closed : Closed) (before after : Telling) (journal : List Event)

@@ -32,7 +32,7 @@ use Rattle.program_runs.specs.Going.{HasDriven, IsDriven, parts_with, stand_of}
 use Rattle.program_runs.specs.Plays.{played_task, sound_with}
 use Rattle.program_runs.proofs.FedRings.{first_supply}
 use Rattle.program_runs.proofs.Goes.{Keeps}
-use Rattle.program_runs.proofs.Gone.{CanGo, Gone, gone, used_in_runs}
+use Rattle.program_runs.proofs.Gone.{CanGo, Gone, gone, told_at_end, used_in_runs}
 use Rattle.program_runs.proofs.Played.{playing_ends, written_few}
 use Rattle.program_runs.proofs.PlayedFrom.{source_for, fed_at_open, later, may, ends, long, less_if, few_bytes}
 use Rattle.stream_format.proofs.Callers.{some_block as some_bytes}
@@ -102,6 +102,12 @@ module _ (kind : PinKind) (machine : Machine) (plans : List Plan) (head : WavHea
       subst (λ (play : Bool). Gone (outputs kind) machine head.format play task schedule parts closed (telling_of closed_rig).journal) can.plays
       (gone (outputs kind) can.keeps machine head.format plans play task schedule parts closed (telling_of opened) (telling_of closed_rig) (telling_of closed_rig).journal
       (can.can_go sound) can.limited can.start refl may_end)
+
+  -- what the rig tells at the end
+  pub ends_at : telling_of closed_rig ≡ telling_from REGION_BYTES machine (telling_of closed_rig).journal
+  ends_at =
+      told_at_end (outputs kind) can.keeps machine head.format plans play task schedule parts closed (telling_of opened) (telling_of closed_rig) (telling_of closed_rig).journal
+      (can.can_go sound) can.limited can.start refl may_end
 
   -- what was taken until the last call was written by the recorded runs
   pub used : driven.course.used ≤ written_by closed.runs.items

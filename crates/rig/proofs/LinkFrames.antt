@@ -9,7 +9,7 @@ use Rattle.schedule_reader.specs.Counts.{step_frames}
 use Rattle.world_rings.specs.Engines.{next_word}
 use Rattle.world_streams.specs.Output.{frame_of}
 use Rattle.hda_world.specs.Worlds.{World, codec_at, output_of}
-use Rattle.hda_world.specs.Steps.{address_of, is_busy, handed, handed_next, sent_first, waiting_of as waiting_of, lost, passed, output_framed, frame_step, times, output_fetched, after_step}
+use Rattle.hda_world.specs.Steps.{address_of, is_busy, handed, handed_next, sent_first, waiting_of as waiting_of, lost, passed, output_framed, input_framed, frame_step, times, output_fetched, input_stored, after_step}
 use Rattle.hda_world.specs.Events.{Event, Stepped, Begin, End, Read, Write, DmaRead, DmaWrite, happens, reset_if, counted_anew_if, registers_written}
 use Rattle.rig.specs.Stretches.{is_access}
 use Rattle.rig.specs.LinkFrames.{event_frames}
@@ -31,7 +31,7 @@ sent_frames address (item ∷ items) world = level world.frames
 
 frame_frames : (world : World) → (frame_step world).frames ≤ world.frames + 1
 frame_frames world =
-    if_frames (is_out_of_reset world.registers.global) (output_framed (frame_of (output_of world)) (passed world)) world (world.frames + 1) (omega arith) (omega arith)
+    if_frames (is_out_of_reset world.registers.global) (input_framed (output_framed (frame_of (output_of world)) (passed world))) world (world.frames + 1) (omega arith) (omega arith)
 
 times_frames : (n : ℕ) (world : World) → (times n frame_step world).frames ≤ world.frames + n
 times_frames zero world = level world.frames
@@ -43,7 +43,9 @@ step_frames_bounded step.Corb world = handed_frames (next_word world.registers w
 step_frames_bounded (step.Answer codec) world = if_frames _ (sent_first codec (waiting_of (codec_at codec world.codecs)) world) world (world.frames + 0) (sent_frames codec (waiting_of (codec_at codec world.codecs)) world) (level world.frames)
 step_frames_bounded (step.Lose codec) world = if_frames (is_out_of_reset world.registers.global) (lost codec world) world (world.frames + 0) (level world.frames) (level world.frames)
 step_frames_bounded step.Rirb world = level world.frames
-step_frames_bounded (step.Fetch stream most) world = if_frames _ (output_fetched most world) world (world.frames + 0) (level world.frames) (level world.frames)
+step_frames_bounded (step.Fetch stream most) world =
+    if_frames _ (output_fetched most world) _ (world.frames + 0) (level world.frames)
+    (if_frames _ (input_stored most world) world (world.frames + 0) (level world.frames) (level world.frames))
 step_frames_bounded (step.Link frames) world = times_frames frames world
 step_frames_bounded (step.Plug codec nid) world = level world.frames
 step_frames_bounded (step.Unplug codec nid) world = level world.frames

@@ -1,5 +1,6 @@
 -- What an open run keeps over its accesses.
 use Rattle.std.proofs.Common.{◌≡◌, ◌≤◌, ◌+◌, ◌-◌, ℕ, Bool, true, false, List, [], ◌∷◌, ◌++◌, length, map, drop, refl, sym, ap, subst, ◌∙◌, arith, flat_map}
+use Rattle.std.specs.Prelude.{Vec}
 use Rattle.std.proofs.lemmas.List.{map-append}
 use Rattle.world_steps.specs.declared.Step.{Step}
 use Rattle.schedule_reader.specs.declared.schedule.Group.{Group}
@@ -56,45 +57,45 @@ ended_by old middle new groups event before after =
 
 -- ---- room
 
-module _ (made spare bytes : ℕ) (groups : List Group) (journal : JournalState) (lists : List Listing) where
+module _ {Z : Type 0} (made spare bytes : ℕ) (groups : List Group) (journal : JournalState) (lists : List Listing) (marks : Vec Bool Z) where
   -- for the accesses, the bytes, the steps and the last mark that are left
   abbrev pub Left : Type 0
-  Left = HasRoomFor (spare + 1 + step_count (drop made groups)) bytes (item_count (drop made groups)) journal lists
+  Left = HasRoomFor (spare + 1 + step_count (drop made groups)) bytes (item_count (drop made groups)) journal lists marks
 
   -- for the steps before the next access
-  pub steps_room : Left → HasRoomFor (length (steps_before made groups)) 0 (items_for (steps_before made groups)) journal lists
+  pub steps_room : Left → HasRoomFor (length (steps_before made groups)) 0 (items_for (steps_before made groups)) journal lists marks
   steps_room left =
       let e = steps_left made groups in
       let i = items_left made groups in
-      less_room _ _ _ (length (steps_before made groups)) 0 (items_for (steps_before made groups)) journal lists (omega (arith, e)) (omega arith) (omega (arith, i)) left
+      less_room _ _ _ (length (steps_before made groups)) 0 (items_for (steps_before made groups)) journal lists marks (omega (arith, e)) (omega arith) (omega (arith, i)) left
 
   -- and then for the access and all that comes after it, of whose bytes it takes so many
   pub access_room : 1 ≤ spare → (taken : ℕ) → taken ≤ bytes → Left
       → HasRoomFor (length (steps_before made groups) + (1 + (spare - 1 + 1 + step_count (drop (made + 1) groups)))) (taken + (bytes - taken))
-      (items_for (steps_before made groups) + item_count (drop (made + 1) groups)) journal lists
+      (items_for (steps_before made groups) + item_count (drop (made + 1) groups)) journal lists marks
   access_room some taken fits left =
       let e = steps_left made groups in
       let i = items_left made groups in
       less_room _ _ _ (length (steps_before made groups) + (1 + (spare - 1 + 1 + step_count (drop (made + 1) groups)))) (taken + (bytes - taken))
-      (items_for (steps_before made groups) + item_count (drop (made + 1) groups)) journal lists (omega (arith, e, some)) (omega (arith, fits)) (omega (arith, i)) left
+      (items_for (steps_before made groups) + item_count (drop (made + 1) groups)) journal lists marks (omega (arith, e, some)) (omega (arith, fits)) (omega (arith, i)) left
 
-pub one_entry : (entries taken bytes items : ℕ) (journal : JournalState) (lists : List Listing) → HasRoomFor (1 + entries) (taken + bytes) items journal lists → HasRoomFor 1 taken 0 journal lists
-one_entry entries taken bytes items journal lists room = less_room (1 + entries) (taken + bytes) items 1 taken 0 journal lists (omega arith) (omega arith) (omega arith) room
+pub one_entry : {Z : Type 0} (entries taken bytes items : ℕ) (journal : JournalState) (lists : List Listing) (marks : Vec Bool Z) → HasRoomFor (1 + entries) (taken + bytes) items journal lists marks → HasRoomFor 1 taken 0 journal lists marks
+one_entry entries taken bytes items journal lists marks room = less_room (1 + entries) (taken + bytes) items 1 taken 0 journal lists marks (omega arith) (omega arith) (omega arith) room
 
 -- after the steps before an access there is room for it and for all that comes after it
-pub passed_room : (made spare bytes taken : ℕ) (groups slice : List Group) (old new : JournalState) (before behind : List Listing) → slice ≡ groups → 1 ≤ spare → taken ≤ bytes
-    → HasRoomFor (spare + 1 + step_count (drop made groups)) bytes (item_count (drop made groups)) old before
-    → ((entries bytes items : ℕ) → HasRoomFor (length (steps_before made slice) + entries) bytes (items_for (steps_before made slice) + items) old before
-    → HasRoomFor entries bytes items new behind)
-    → HasRoomFor (1 + (spare - 1 + 1 + step_count (drop (made + 1) groups))) (taken + (bytes - taken)) (item_count (drop (made + 1) groups)) new behind
-passed_room made spare bytes taken groups slice old new before behind same some fits left passes =
+pub passed_room : {Z : Type 0} (made spare bytes taken : ℕ) (groups slice : List Group) (old new : JournalState) (before behind : List Listing) (front back : Vec Bool Z) → slice ≡ groups → 1 ≤ spare → taken ≤ bytes
+    → HasRoomFor (spare + 1 + step_count (drop made groups)) bytes (item_count (drop made groups)) old before front
+    → ((entries bytes items : ℕ) → HasRoomFor (length (steps_before made slice) + entries) bytes (items_for (steps_before made slice) + items) old before front
+    → HasRoomFor entries bytes items new behind back)
+    → HasRoomFor (1 + (spare - 1 + 1 + step_count (drop (made + 1) groups))) (taken + (bytes - taken)) (item_count (drop (made + 1) groups)) new behind back
+passed_room made spare bytes taken groups slice old new before behind front back same some fits left passes =
     passes _ _ _ (subst (λ (all : List Group). HasRoomFor (length (steps_before made all) + (1 + (spare - 1 + 1 + step_count (drop (made + 1) groups)))) (taken + (bytes - taken))
-    (items_for (steps_before made all) + item_count (drop (made + 1) groups)) old before) (sym same) (access_room made spare bytes groups old before some taken fits left))
+    (items_for (steps_before made all) + item_count (drop (made + 1) groups)) old before front) (sym same) (access_room made spare bytes groups old before front some taken fits left))
 
 pub passed_told : (made : ℕ) (groups slice : List Group) (old new : Telling) → slice ≡ groups → Went old new (map Stepped (steps_before made slice))
     → Went old new (map Stepped (steps_before made groups))
 passed_told made groups slice old new same went = subst (λ (all : List Group). Went old new (map Stepped (steps_before made all))) same went
 
-pub fewer_bytes : (entries bytes fewer items : ℕ) (journal : JournalState) (lists : List Listing) → fewer ≤ bytes → HasRoomFor entries bytes items journal lists
-    → HasRoomFor entries fewer items journal lists
-fewer_bytes entries bytes fewer items journal lists less room = less_room entries bytes items entries fewer items journal lists (omega arith) less (omega arith) room
+pub fewer_bytes : {Z : Type 0} (entries bytes fewer items : ℕ) (journal : JournalState) (lists : List Listing) (marks : Vec Bool Z) → fewer ≤ bytes → HasRoomFor entries bytes items journal lists marks
+    → HasRoomFor entries fewer items journal lists marks
+fewer_bytes entries bytes fewer items journal lists marks less room = less_room entries bytes items entries fewer items journal lists marks (omega arith) less (omega arith) room

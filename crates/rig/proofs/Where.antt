@@ -1,8 +1,8 @@
 -- Where a journal leads, event by event.
 use Rattle.codec_graph.specs.declared.pin_kind.PinKind.{PinKind}
-use Rattle.std.proofs.Common.{◌≡◌, ◌≤◌, ◌<◌, ◌+◌, ℕ, true, List, [], ◌∷◌, ◌++◌, length, map, get_or, take, drop, slice_range, refl, sym, ap, subst, ◌∙◌, arith, All}
+use Rattle.std.proofs.Common.{◌≡◌, ◌≤◌, ◌<◌, ◌+◌, ℕ, Bool, true, List, [], ◌∷◌, ◌++◌, length, map, get_or, take, drop, slice_range, refl, sym, ap, subst, ◌∙◌, arith, All}
 use Rattle.std.proofs.Props.{props}
-use Rattle.std.specs.Coded.{Coded-set, coded_ℕ, coded_list}
+use Rattle.std.specs.Coded.{Coded-set, coded_ℕ, coded_bool, coded_list}
 use Rattle.std.proofs.Math.Logic.{∥∥₁_elim}
 use Rattle.std.proofs.Math.Seq.{take-append_seam}
 use Rattle.hda_registers.specs.Fields.{Fields}
@@ -15,7 +15,7 @@ use Rattle.heard_frames.specs.declared.heard.Heard.{Heard}
 use Rattle.heard_frames.specs.HeardLists.{heard_as}
 use Rattle.heard_frames.proofs.Callers.{heard-append}
 use Rattle.world_steps.specs.declared.Step.{Step}
-use Rattle.hda_world.specs.Worlds.{World, CarriedFrame}
+use Rattle.hda_world.specs.Worlds.{World, CarriedFrame, given_sound}
 use Rattle.hda_world.specs.Steps.{after_step}
 use Rattle.hda_world.specs.Events.{Event, Stepped, Write, DmaWrite, after, after_write, happens, IsHonest, AreHonest, IsPiece}
 use Rattle.hda_world.specs.Tellings.{Went}
@@ -24,8 +24,9 @@ use Rattle.codec_graph.specs.declared.raw.RawCodec.{RawCodec}
 use Rattle.heard_lists.specs.declared.pin_list.PinHeard.{PinHeard}
 use Rattle.heard_lists.specs.Listings.{Listing, with_items, grown_as, handed_out, pins_of, AreListsAs, AreEmpty}
 use Rattle.hda_controller.specs.Controllers.{ControllerState, StandsFor, is_candidate_of_kind}
-use Rattle.hda_controller.specs.Hearing.{AreHeardAs, GrewAs}
-use Rattle.rig.specs.Replays.{AreHeardInAs}
+use Rattle.hda_controller.specs.Hearing.{AreHeardAs, CameAs, GrewAs}
+use Rattle.hda_files.specs.declared.machine.Machine.{Machine}
+use Rattle.rig.specs.Replays.{AreHeardInAs, start_given, telling_given}
 use Rattle.rig.specs.Recordings.{IsWhere}
 
 -- ---- what is told
@@ -63,17 +64,17 @@ lists_stay kind before later lists same were =
 
 -- ---- events
 
-module _ (kind : PinKind) (start : World) (events more : List Event) (memory : List ℕ) (controller : ControllerState) (lists : List Listing) where
+module _ (kind : PinKind) (start : World) (events more : List Event) (memory : List ℕ) (controller : ControllerState) (lists : List Listing) (marks : List Bool) where
   abbrev here : World
   here = after events start
 
   -- a step
-  pub where_stepped : (step : Step) (left : List ℕ) (moved : ControllerState) (grew : List Listing) → IsWhere kind start events memory controller lists
+  pub where_stepped : (step : Step) (left : List ℕ) (moved : ControllerState) (grew : List Listing) (noted : List Bool) → IsWhere kind start events memory controller lists marks
       → more ≡ events ++ Stepped step ∷ [] → ((world : World) → StandsFor memory controller world → StandsFor left moved (after_step step world))
       → ((world : World) → StandsFor memory controller world → GrewAs controller.kind world (after_step step world) lists grew) → AreHeardAs moved.kind moved.device.codecs grew
-      → moved.kind ≡ controller.kind
-      → IsWhere kind start more left moved grew
-  where_stepped step left moved grew was is stands goes known same =
+      → moved.kind ≡ controller.kind → ((world : World) → StandsFor memory controller world → CameAs world (after_step step world) marks noted)
+      → IsWhere kind start more left moved grew noted
+  where_stepped step left moved grew noted was is stands goes known same comes =
       let leads : after_step step here ≡ after more start = sym (leads_on start events more (Stepped step) is) in
       record {
         stands = subst (StandsFor left moved) leads (stands here was.stands);
@@ -82,16 +83,20 @@ module _ (kind : PinKind) (start : World) (events more : List Event) (memory : L
         heard = subst (λ (world : World). AreHeardInAs kind world grew) leads
             (lists_go_on kind here (after_step step here) lists grew
             (subst (λ (pins : PinKind). GrewAs pins here (after_step step here) lists grew) was.kind_is (goes here was.stands)) was.heard);
+        came = (
+            let came = comes here was.stands in
+            sym (ap (λ (world : World). world.came) leads) ∙ (came.came ∙ (ap (λ (front : List Bool). front ++ came.added) was.came ∙ sym came.marks)));
       }
 
   -- a write of a register
-  pub where_written : (at : ℕ) (width : Width) (value : ℕ) (moved : ControllerState) → IsWhere kind start events memory controller lists
+  pub where_written : (at : ℕ) (width : Width) (value : ℕ) (moved : ControllerState) (left : List Bool) → IsWhere kind start events memory controller lists marks
       → more ≡ events ++ Write at width value ∷ []
       → ((memory : List ℕ) (world : World) → StandsFor memory controller world → StandsFor memory moved (after_write at width value world))
       → ((some : List Listing) → AreHeardAs controller.kind controller.device.codecs some → AreHeardAs moved.kind moved.device.codecs some)
       → moved.kind ≡ controller.kind
-      → IsWhere kind start more memory moved lists
-  where_written at width value moved was is stands keeps same =
+      → ((memory : List ℕ) (before : World) (at : ℕ) (width : Width) (value : ℕ) → StandsFor memory moved (after_write at width value before) → before.came ≡ marks → (after_write at width value before).came ≡ left)
+      → IsWhere kind start more memory moved lists left
+  where_written at width value moved left was is stands keeps same kept =
       let leads : after_write at width value here ≡ after more start = sym (leads_on start events more (Write at width value) is) in
       record {
         stands = subst (StandsFor memory moved) leads (stands memory here was.stands);
@@ -99,11 +104,12 @@ module _ (kind : PinKind) (start : World) (events more : List Event) (memory : L
         known = keeps lists was.known;
         heard = subst (λ (world : World). AreHeardInAs kind world lists) leads
             (lists_stay kind here (after_write at width value here) lists (access_leaves here at value width).carried was.heard);
+        came = sym (ap (λ (world : World). world.came) leads) ∙ kept memory here at width value (stands memory here was.stands) was.came;
       }
 
   -- a write of a piece of memory
-  pub where_stored : (at : ℕ) (piece left : List ℕ) → IsWhere kind start events memory controller lists → more ≡ events ++ DmaWrite at piece ∷ []
-      → left ≡ stored memory at piece → IsWhere kind start more left controller lists
+  pub where_stored : (at : ℕ) (piece left : List ℕ) → IsWhere kind start events memory controller lists marks → more ≡ events ++ DmaWrite at piece ∷ []
+      → left ≡ stored memory at piece → IsWhere kind start more left controller lists marks
   where_stored at piece left was is stores =
       let leads : happens here (DmaWrite at piece) ≡ after more start = sym (leads_on start events more (DmaWrite at piece) is) in
       record {
@@ -113,17 +119,19 @@ module _ (kind : PinKind) (start : World) (events more : List Event) (memory : L
           codecs_are = was.stands.codecs_are;
           waiting_is = was.stands.waiting_is;
           frames_are = was.stands.frames_are;
+          captured = record { given_is = was.stands.captured.given_is; came_is = was.stands.captured.came_is };
           input_stands = was.stands.input_stands;
           output_stands = was.stands.output_stands;
         });
         kind_is = was.kind_is;
         known = was.known;
         heard = subst (λ (world : World). AreHeardInAs kind world lists) leads was.heard;
+        came = sym (ap (λ (world : World). world.came) leads) ∙ was.came;
       }
 
   -- an event that changes nothing
-  pub where_seen : (event : Event) → IsWhere kind start events memory controller lists → more ≡ events ++ event ∷ [] → happens here event ≡ here
-      → IsWhere kind start more memory controller lists
+  pub where_seen : (event : Event) → IsWhere kind start events memory controller lists marks → more ≡ events ++ event ∷ [] → happens here event ≡ here
+      → IsWhere kind start more memory controller lists marks
   where_seen event was is nothing =
       let leads : here ≡ after more start = sym (leads_on start events more event is ∙ nothing) in
       record {
@@ -131,14 +139,16 @@ module _ (kind : PinKind) (start : World) (events more : List Event) (memory : L
         kind_is = was.kind_is;
         known = was.known;
         heard = subst (λ (world : World). AreHeardInAs kind world lists) leads was.heard;
+        came = sym (ap (λ (world : World). world.came) leads) ∙ was.came;
       }
 
 -- ---- at the start
 
 pub where_started : (kind : PinKind) (start : World) (memory : List ℕ) (controller : ControllerState) (lists : List Listing) → StandsFor memory controller start
     → controller.kind ≡ kind → AreHeardAs controller.kind controller.device.codecs lists → AreEmpty lists → start.carried ≡ []
-    → IsWhere kind start [] memory controller lists
-where_started kind start memory controller lists stands kind_is known empty none = record {
+    → start.came ≡ [] → IsWhere kind start [] memory controller lists []
+where_started kind start memory controller lists stands kind_is known empty none came = record {
+  came = came;
   stands = stands;
   kind_is = kind_is;
   known = known;
@@ -157,9 +167,10 @@ alike : (P : PinHeard → Type 0) (old new : List Listing) → map handed_out ne
     → All (λ (listing : Listing). P (handed_out listing)) new
 alike P old new same were = unmapped P new (subst (All P) (sym same) (All-map P handed_out old were))
 
-pub where_reserved : (kind : PinKind) (start : World) (events : List Event) (memory : List ℕ) (controller : ControllerState) (old new : List Listing)
-    → map handed_out new ≡ map handed_out old → IsWhere kind start events memory controller old → IsWhere kind start events memory controller new
-where_reserved kind start events memory controller old new same was = record {
+pub where_reserved : (kind : PinKind) (start : World) (events : List Event) (memory : List ℕ) (controller : ControllerState) (old new : List Listing) (marks kept : List Bool)
+    → map handed_out new ≡ map handed_out old → kept ≡ marks → IsWhere kind start events memory controller old marks → IsWhere kind start events memory controller new kept
+where_reserved kind start events memory controller old new marks kept same stay was = record {
+  came = was.came ∙ sym stay;
   stands = was.stands;
   kind_is = was.kind_is;
   known = alike (λ (list : PinHeard). is_candidate_of_kind controller.kind controller.device.codecs list.codec list.pin ≡ true) old new same was.known;
@@ -188,12 +199,12 @@ listed_stepped pins kind graphs before later old new grew are = listed_by kind g
 
 -- ---- answers of the moment
 
-pub memory_there : {kind : PinKind} {start : World} {events : List Event} {memory : List ℕ} {controller : ControllerState} {lists : List Listing}
-    → ∥ IsWhere kind start events memory controller lists ∥₁ → (after events start).memory ≡ memory
+pub memory_there : {kind : PinKind} {start : World} {events : List Event} {memory : List ℕ} {controller : ControllerState} {lists : List Listing} {marks : List Bool}
+    → ∥ IsWhere kind start events memory controller lists marks ∥₁ → (after events start).memory ≡ memory
 memory_there there = ∥∥₁_elim there (Coded-set (coded_list coded_ℕ) _ _) (λ here. here.stands.memory_is)
 
-pub value_there : {kind : PinKind} {start : World} {events : List Event} {memory : List ℕ} {controller : ControllerState} {lists : List Listing} (at : ℕ) (width : Width) (value : ℕ)
-    → ∥ IsWhere kind start events memory controller lists ∥₁ → value ≡ value_at controller.device.registers at width
+pub value_there : {kind : PinKind} {start : World} {events : List Event} {memory : List ℕ} {controller : ControllerState} {lists : List Listing} {marks : List Bool} (at : ℕ) (width : Width) (value : ℕ)
+    → ∥ IsWhere kind start events memory controller lists marks ∥₁ → value ≡ value_at controller.device.registers at width
     → value ≡ value_at (after events start).registers at width
 value_there at width value there read =
     ∥∥₁_elim there (Coded-set coded_ℕ _ _) (λ here. read ∙ ap (λ (fields : Fields). value_at fields at width) (sym here.stands.registers_are))
@@ -218,12 +229,54 @@ whole_write new old written n is long size = rw (size, ← long) (take-append_se
 pub honest_same : (start : World) (events same : List Event) → same ≡ events → AreHonest events start → AreHonest same start
 honest_same start events same is honest = subst (λ (all : List Event). AreHonest all start) (sym is) honest
 
-pub where_same : (kind : PinKind) (start : World) (events same : List Event) (memory : List ℕ) (controller : ControllerState) (lists : List Listing) → same ≡ events
-    → IsWhere kind start events memory controller lists → IsWhere kind start same memory controller lists
-where_same kind start events same memory controller lists is there = subst (λ (all : List Event). IsWhere kind start all memory controller lists) (sym is) there
+pub where_same : (kind : PinKind) (start : World) (events same : List Event) (memory : List ℕ) (controller : ControllerState) (lists : List Listing) (marks : List Bool) → same ≡ events
+    → IsWhere kind start events memory controller lists marks → IsWhere kind start same memory controller lists marks
+where_same kind start events same memory controller lists marks is there = subst (λ (all : List Event). IsWhere kind start all memory controller lists marks) (sym is) there
+
+pub where_marked : (kind : PinKind) (start : World) (events : List Event) (memory : List ℕ) (controller : ControllerState) (lists : List Listing) (marks same : List Bool) → same ≡ marks
+    → IsWhere kind start events memory controller lists marks → IsWhere kind start events memory controller lists same
+where_marked kind start events memory controller lists marks same is there = subst (IsWhere kind start events memory controller lists) (sym is) there
+
+-- ---- the same sound
+
+pub honest_given : (size : ℕ) (machine : Machine) (sound same : List ℕ) (events : List Event) → same ≡ sound → AreHonest events (start_given size machine sound)
+    → AreHonest events (start_given size machine same)
+honest_given size machine sound same events is honest = subst (λ (given : List ℕ). AreHonest events (start_given size machine given)) (sym is) honest
+
+pub where_given : (kind : PinKind) (size : ℕ) (machine : Machine) (sound same : List ℕ) (events : List Event) (memory : List ℕ) (controller : ControllerState) (lists : List Listing) (marks : List Bool) → same ≡ sound
+    → IsWhere kind (start_given size machine sound) events memory controller lists marks → IsWhere kind (start_given size machine same) events memory controller lists marks
+where_given kind size machine sound same events memory controller lists marks is there =
+    subst (λ (given : List ℕ). IsWhere kind (start_given size machine given) events memory controller lists marks) (sym is) there
+
+pub went_given : (size : ℕ) (machine : Machine) (sound same : List ℕ) (old new : List Event) (events : List Event) → same ≡ sound
+    → Went (telling_given size machine sound old) (telling_given size machine sound new) events → Went (telling_given size machine sound old) (telling_given size machine same new) events
+went_given size machine sound same old new events is went = record {
+  start = ap (start_given size machine) is;
+  journal = went.journal;
+  honest = went.honest;
+}
+
+-- before anything happened, with another sound
+pub where_sounded : (kind : PinKind) (size : ℕ) (machine : Machine) (old new : List ℕ) (memory : List ℕ) (controller moved : ControllerState) (lists : List Listing) (marks : List Bool)
+    → ((memory : List ℕ) (world : World) → StandsFor memory controller world → StandsFor memory moved (given_sound new world))
+    → ((some : List Listing) → AreHeardAs controller.kind controller.device.codecs some → AreHeardAs moved.kind moved.device.codecs some) → moved.kind ≡ controller.kind
+    → IsWhere kind (start_given size machine old) [] memory controller lists marks → IsWhere kind (start_given size machine new) [] memory moved lists marks
+where_sounded kind size machine old new memory controller moved lists marks stands keeps same was = record {
+  stands = stands memory (start_given size machine old) was.stands;
+  kind_is = same ∙ was.kind_is;
+  known = keeps lists was.known;
+  heard = was.heard;
+  came = was.came;
+}
+
+-- ---- marks of the moment
+
+pub came_there : {kind : PinKind} {start : World} {events : List Event} {memory : List ℕ} {controller : ControllerState} {lists : List Listing} {marks : List Bool}
+    → ∥ IsWhere kind start events memory controller lists marks ∥₁ → (after events start).came ≡ marks
+came_there there = ∥∥₁_elim there (Coded-set (coded_list coded_bool) _ _) (λ here. here.came)
 
 -- ---- lists of the moment
 
-pub heard_there : {kind : PinKind} {start : World} {events : List Event} {memory : List ℕ} {controller : ControllerState} {lists : List Listing}
-    → ∥ IsWhere kind start events memory controller lists ∥₁ → AreHeardInAs kind (after events start) lists
+pub heard_there : {kind : PinKind} {start : World} {events : List Event} {memory : List ℕ} {controller : ControllerState} {lists : List Listing} {marks : List Bool}
+    → ∥ IsWhere kind start events memory controller lists marks ∥₁ → AreHeardInAs kind (after events start) lists
 heard_there there = ∥∥₁_elim there (Prim.hlevel props) (λ here. here.heard)

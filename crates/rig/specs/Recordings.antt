@@ -1,5 +1,5 @@
 -- A machine in motion whose journal is kept, and what is told of it. This project's own.
-use Rattle.std.specs.Prelude.{◌≡◌, ◌≤◌, ℕ, List, sum_by}
+use Rattle.std.specs.Prelude.{◌≡◌, ◌≤◌, ◌+◌, ℕ, Bool, List, Vec, sum_by, vec_len, vec_capacity}
 use Rattle.codec_graph.specs.declared.pin_kind.PinKind.{PinKind}
 use Rattle.world_steps.specs.declared.Step.{Step}
 use Rattle.hda_world.specs.Worlds.{World}
@@ -10,19 +10,24 @@ use Rattle.hda_controller.specs.Controllers.{ControllerState, StandsFor}
 use Rattle.hda_controller.specs.Hearing.{AreHeardAs, most_items}
 use Rattle.rig.specs.Replays.{AreHeardInAs}
 
--- the controller with its memory and the heard lists, of pins of the kind, are where the journal leads from the start
+-- the controller with its memory, the heard lists, of pins of the kind, and the marks of the blocks that came are where
+-- the journal leads from the start
 pub record IsWhere (kind : PinKind) (start : World) (events : List Event) (memory : List ℕ)
-    (controller : ControllerState) (lists : List Listing) : Type 0 where
+    (controller : ControllerState) (lists : List Listing) (marks : List Bool) : Type 0 where
   pub stands : StandsFor memory controller (after events start)
   pub kind_is : controller.kind ≡ kind
   pub known : AreHeardAs controller.kind controller.device.codecs lists
   pub heard : AreHeardInAs kind (after events start) lists
+  pub came : (after events start).came ≡ marks
 
 -- a journal has room for so many more entries and bytes of pieces of memory, and each heard list for so many more items
-pub record HasRoomFor (entries bytes items : ℕ) (journal : JournalState) (lists : List Listing) : Type 0 where
+-- and the list of marks for as many marks
+pub record HasRoomFor {Z : Type 0} (entries bytes items : ℕ) (journal : JournalState) (lists : List Listing)
+    (marks : Vec Bool Z) : Type 0 where
   pub entries_fit : entries ≤ journal.spare_entries
   pub bytes_fit : bytes ≤ journal.spare_bytes
   pub items_fit : HasRoom items lists
+  pub marks_fit : vec_len marks + items ≤ vec_capacity marks
 
 -- for how many items in each list steps ask room
 abbrev pub items_for : List Step → ℕ

@@ -4,7 +4,7 @@ use Rattle.codec_graph.specs.declared.pin_kind.PinKind.{PinKind}
 use Rattle.codec_graph.specs.declared.pin_kind.PinKind.TheVariants.{Analog}
 use Rattle.heard_frames.specs.HeardLists.{heard_as}
 use Rattle.hda_files.specs.declared.machine.Machine.{Machine}
-use Rattle.hda_world.specs.Worlds.{World}
+use Rattle.hda_world.specs.Worlds.{World, given_sound}
 use Rattle.hda_world.specs.Events.{Event, after, AreHonest}
 use Rattle.hda_world.specs.Tellings.{Telling}
 use Rattle.heard_lists.specs.Listings.{Listing}
@@ -19,9 +19,17 @@ zeros size = replicate size 0
 abbrev pub start_of : ℕ → Machine → World
 start_of size machine = opening_world (zeros size) machine
 
+-- the same where its input pins are given this sound
+abbrev pub start_given : ℕ → Machine → (sound : List ℕ) → World
+start_given size machine sound = given_sound sound (start_of size machine)
+
 -- what is told of a machine with this journal
 abbrev pub telling_from : ℕ → Machine → List Event → Telling
 telling_from size machine journal = record { start = start_of size machine; journal = journal }
+
+-- and where its input pins are given this sound
+abbrev pub telling_given : ℕ → Machine → (sound : List ℕ) → List Event → Telling
+telling_given size machine sound journal = record { start = start_given size machine sound; journal = journal }
 
 -- the journal leads to this world, and each of its accesses says what the world answered at its moment
 pub record Replays (start : World) (journal : List Event) (world : World) : Type 0 where

@@ -1,5 +1,5 @@
 -- What a rig tells. This project's own.
-use Rattle.std.specs.Prelude.{◌≡◌, List, Option, Some, IfSome, length}
+use Rattle.std.specs.Prelude.{◌≡◌, ℕ, List, Option, Some, IfSome, length}
 use Rattle.std.specs.Coded.{Coded-set, coded_ℕ}
 use Rattle.std.proofs.Common.{ap, ◌∙◌}
 use Rattle.std.proofs.Math.Logic.{∥∥₁_elim}
@@ -12,14 +12,21 @@ use Rattle.rig.specs.declared.recording.Recording.{Recording}
 use Rattle.rig.specs.declared.rig.Rig.{Rig}
 use Rattle.rig.specs.declared.setting.Setting.{Setting}
 use Rattle.hda_controller.specs.Controllers.{StandsFor}
-use Rattle.rig.specs.Replays.{telling_from, start_of, Replays, AreHeardInAs}
+use Rattle.rig.specs.Replays.{telling_given, start_given, Replays, AreHeardInAs}
+
+-- the sound that its input pins are given
+abbrev pub sound_given : Recording → List ℕ
+sound_given recording = recording.controller.device.input.given
 
 abbrev pub told_of : Recording → Telling
-told_of recording = telling_from REGION_BYTES recording.machine (events_of recording.journal)
+told_of recording = telling_given REGION_BYTES recording.machine (sound_given recording) (events_of recording.journal)
 
--- a rig tells the start of its machine and its journal
+-- a rig tells the start of its machine, whose input pins are given a sound, and its journal
 abbrev pub telling_of : Rig → Telling
 telling_of rig = told_of rig.recording
+
+abbrev pub sound_of : Rig → List ℕ
+sound_of rig = sound_given rig.recording
 
 abbrev pub told_by : Rig → Option Telling
 told_by rig = Some (telling_of rig)
@@ -44,11 +51,14 @@ setting_of rig = record {
 abbrev pub lists_of : Rig → List Listing
 lists_of rig = rig.recording.heard
 
--- the journal replays to a world, and the rig is there: its controller with its memory stands for this world, and there
--- is one list for each candidate pin of the kind, which has what that pin heard in it
+-- the journal replays to a world, and the rig is there: its controller with its memory stands for this world, there is
+-- one list for each candidate pin of the kind, which has what that pin heard in it, and of each block that came to the
+-- input stream the rig has whether it was taken
 pub record IsReplayed (rig : Rig) : Type 0 where
   pub world : World
-  pub replays : Replays (start_of REGION_BYTES (setting_of rig).machine) (telling_of rig).journal world
+  pub replays : Replays (start_given REGION_BYTES (setting_of rig).machine (sound_of rig)) (telling_of rig).journal
+      world
   pub stands : ∥ StandsFor rig.recording.memory.items rig.recording.controller world ∥₁
   pub heard : AreHeardInAs (setting_of rig).kind world (lists_of rig)
+  pub taken : world.came ≡ rig.recording.came.items
   pub pins : ∥ AreListsAs (setting_of rig).kind (graphs_in (setting_of rig).machine.codecs) (lists_of rig) ∥₁

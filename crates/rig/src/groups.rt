@@ -31,14 +31,15 @@ pub(crate) fn copied(alloc: Global, groups: &[Group]) -> Result<Items<Group>, Al
 /// Makes the steps before the access of this number, counted from 0: those of its group, if there is one.
 pub(crate) fn pass(recording: &mut Recording, groups: &[Group], number: usize)
     requires { HasRoomFor (length (steps_before number groups.now)) 0 (items_for (steps_before number groups.now))
-        recording.old.journal recording.old.heard }
+        recording.old.journal recording.old.heard recording.old.came }
     ensures told { Went (told_of recording.old) (told_of recording.new) (map Stepped (steps_before number groups.now)) }
     ensures machine { recording.new.machine ≡ recording.old.machine }
     ensures kind { recording.new.kind ≡ recording.old.kind }
     ensures room { (entries bytes items : ℕ)
         → HasRoomFor (length (steps_before number groups.now) + entries) bytes
         (items_for (steps_before number groups.now) + items) recording.old.journal recording.old.heard
-        → HasRoomFor entries bytes items recording.new.journal recording.new.heard }
+        recording.old.came
+        → HasRoomFor entries bytes items recording.new.journal recording.new.heard recording.new.came }
 {
     if number < groups.len() {
         recording.make_steps(groups[number].steps.as_slice());
@@ -47,14 +48,15 @@ pub(crate) fn pass(recording: &mut Recording, groups: &[Group], number: usize)
 
 /// Makes the steps of all groups in turn.
 pub(crate) fn pass_all(recording: &mut Recording, groups: &[Group])
-    requires { HasRoomFor (step_count groups.now) 0 (item_count groups.now) recording.old.journal recording.old.heard }
+    requires { HasRoomFor (step_count groups.now) 0 (item_count groups.now) recording.old.journal recording.old.heard
+        recording.old.came }
     ensures told { Went (told_of recording.old) (told_of recording.new) (all_steps_in groups.now) }
     ensures machine { recording.new.machine ≡ recording.old.machine }
     ensures kind { recording.new.kind ≡ recording.old.kind }
     ensures room { (entries bytes items : ℕ)
         → HasRoomFor (step_count groups.now + entries) bytes (item_count groups.now + items) recording.old.journal
-        recording.old.heard
-        → HasRoomFor entries bytes items recording.new.journal recording.new.heard }
+        recording.old.heard recording.old.came
+        → HasRoomFor entries bytes items recording.new.journal recording.new.heard recording.new.came }
 {
     for group in groups {
         recording.make_steps(group.steps.as_slice());

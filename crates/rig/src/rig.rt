@@ -45,7 +45,7 @@ pub struct Rig {
     pub ghost numbered: { in_run ≡ true → made ≡ length (accesses_of (drop begun (events_of recording.journal))) },
     pub ghost room: { in_run ≡ true → HasRoomFor (spare_accesses + 1 + step_count (drop made groups)) spare_bytes
         (item_count (drop made groups))
-        recording.journal recording.heard } by { Prim.hlevel props },
+        recording.journal recording.heard recording.came } by { Prim.hlevel props },
 }
 
 impl Rig {
@@ -54,7 +54,7 @@ impl Rig {
     ghost use Rattle.hda_world.specs.declared.world.TheConstants.{REGION_BYTES};
     ghost use Rattle.hda_world.specs.Events.{Stepped, Begin, End};
     ghost use Rattle.hda_world.specs.Tellings.{Went, Accessed, Between};
-    ghost use Rattle.rig.specs.Replays.{telling_from};
+    ghost use Rattle.rig.specs.Replays.{telling_from, telling_given};
     ghost use Rattle.rig.specs.Stretches.{IsStretchFrom};
     ghost use Rattle.rig.specs.Rigs.{telling_of, told_by, setting_of};
 
@@ -106,6 +106,17 @@ impl Rig {
             spare_accesses: 0,
             spare_bytes: 0,
         })
+    }
+
+    /// Gives all input pins this sound, before the first step. While the input stream runs, its blocks come to it one
+    /// after the other, and silence behind them.
+    pub fn give(&mut self, sound: Vec<u8>)
+        requires { (telling_of self.old).journal ≡ [] }
+        ensures told { told_by self.new
+            ≡ Some (telling_given REGION_BYTES (setting_of self.old).machine sound.items []) }
+        ensures setting { setting_of self.new ≡ setting_of self.old }
+    {
+        self.recording.give(sound);
     }
 
     /// Makes a step of the device, while no run is open.

@@ -26,6 +26,8 @@ pub use Rattle.world_streams.proofs.Formats.{few_bytes}
 pub use Rattle.world_streams.proofs.Writing.{write_plays, same_play}
 -- FIFORDY of the output stream stays over a write or is reset
 pub use Rattle.world_streams.proofs.Writing.{write_ready}
+-- and that of the input stream
+pub use Rattle.world_streams.proofs.Writing.{write_ready_input}
 -- an empty FIFO is not ready
 pub use Rattle.world_streams.proofs.Writing.{not_ready}
 -- a link frame has four blocks at most

@@ -128,6 +128,26 @@ write_ready before at width value =
     (by_test (OutputReady before) (nat_lt at 0xC0) _ before (one_ready (at - 0xA0) width value before.output) (inl refl))))
     (inl refl)
 
+-- of the input stream
+abbrev pub InputReady : Fields → Fields → Type 0
+InputReady before after = ReadyStays before.input after.input
+
+global_ready_input : (before : Fields) (g : Global) → InputReady before (with_global before g)
+global_ready_input before g = by_out (is_out_of_reset g)
+  where
+    by_out : (out : Bool) → InputReady before (if out then record before { global = g } else reset_fields before.shape g.state_status)
+    by_out true = inl refl
+    by_out false = inr refl
+
+pub write_ready_input : (before : Fields) (at : ℕ) (width : Width) (value : ℕ) → InputReady before (written before at width value)
+unfolding written placed
+write_ready_input before at width value =
+    by_test (InputReady before) (is_taken before at width) _ before
+    (by_test (InputReady before) (nat_lt at 0x80) _ _ (global_ready_input before (global_written before.shape (access_of at width value) before.global))
+    (by_test (InputReady before) (nat_lt at 0xA0) _ _ (one_ready (at - 0x80) width value before.input)
+    (by_test (InputReady before) (nat_lt at 0xC0) _ before (inl refl) (inl refl))))
+    (inl refl)
+
 not_yet : (most : ℕ) → 0 < most → nat_le most 0 ≡ false
 not_yet most some = search (rules, tests)
 

@@ -1,6 +1,7 @@
 //! What heard lists gain while link frames pass. The blocks that frames in a row carry are heard together, so that the
 //! signals of pins are asked for once.
-ghost use Rattle.std.specs.Prelude.{◌≡◌, ◌≤◌, ◌+◌, ◌*◌, ℕ, List, [], ◌∷◌, Some, length, map, take};
+ghost use Rattle.std.specs.Prelude.{◌≡◌, ◌≤◌, ◌+◌, ◌*◌, ℕ, List, [], ◌∷◌, Some, length, map, take, vec_len};
+ghost use Rattle.std.specs.Prelude.{vec_capacity};
 ghost use Rattle.hda_world.specs.Worlds.{World};
 ghost use Rattle.hda_world.specs.Steps as steps;
 ghost use Rattle.stream_format.specs.Cadence.{bytes_of_block};
@@ -8,7 +9,7 @@ ghost use Rattle.stream_format.specs.Layouts.{Layout, layout_of};
 ghost use Rattle.heard_frames.specs.declared.heard.Heard.TheVariants.{Hole};
 ghost use Rattle.heard_lists.specs.Listings.{HasRoom, with_blocks, with_items};
 ghost use Rattle.hda_controller.specs.Controllers.{StandsFor, signal_now};
-ghost use Rattle.hda_controller.specs.Hearing.{AreDue, AreHeardAs, GrewAs};
+ghost use Rattle.hda_controller.specs.Hearing.{AreDue, AreHeardAs, CameAs, GrewAs};
 ghost use Rattle.hda_controller.specs.Unheard.{AreWhole, block_count, heard_now, layout_now};
 
 use super::Controller;
@@ -24,8 +25,9 @@ type Unheard = ArrayVec<u8, UNHEARD_BYTES>;
 
 impl Controller {
     /// Lets so many link frames pass.
-    pub(super) fn link(&mut self, frames: u32, heard: &mut HeardLists)
+    pub(super) fn link(&mut self, frames: u32, heard: &mut HeardLists, came: &mut Vec<bool>)
         requires room { HasRoom (4 * frames) heard.old }
+        requires space { vec_len came.old + 4 * frames ≤ vec_capacity came.old }
         requires lists { AreHeardAs self.old.kind self.old.device.codecs heard.old }
         ensures stands { (memory : List ℕ) (world : World) → StandsFor memory self.old world
             → StandsFor memory self.new (steps.times frames steps.frame_step world) }
@@ -34,17 +36,22 @@ impl Controller {
         ensures room { (more : ℕ) → HasRoom (4 * frames + more) heard.old → HasRoom more heard.new }
         ensures kept { self.new.kept ≡ self.old.kept }
         ensures kind { self.new.kind ≡ self.old.kind }
+        ensures came { (memory : List ℕ) (world : World) → StandsFor memory self.old world
+            → CameAs world (steps.times frames steps.frame_step world) came.old.items came.new.items }
+        ensures space { (more : ℕ) → vec_len came.old + (4 * frames + more) ≤ vec_capacity came.old
+            → vec_len came.new + more ≤ vec_capacity came.new }
     {
         if frames == 1 {
-            self.link_alone(heard);
+            self.link_alone(heard, came);
         } else {
-            self.link_together(frames, heard);
+            self.link_together(frames, heard, came);
         }
     }
 
     /// Lets a link frame pass, which is heard at once.
-    fn link_alone(&mut self, heard: &mut HeardLists)
+    fn link_alone(&mut self, heard: &mut HeardLists, came: &mut Vec<bool>)
         requires room { HasRoom 4 heard.old }
+        requires space { vec_len came.old + 4 ≤ vec_capacity came.old }
         requires lists { AreHeardAs self.old.kind self.old.device.codecs heard.old }
         ensures stands { (memory : List ℕ) (world : World) → StandsFor memory self.old world
             → StandsFor memory self.new (steps.frame_step world) }
@@ -53,11 +60,15 @@ impl Controller {
         ensures room { (more : ℕ) → HasRoom (4 + more) heard.old → HasRoom more heard.new }
         ensures kept { self.new.kept ≡ self.old.kept }
         ensures kind { self.new.kind ≡ self.old.kind }
+        ensures came { (memory : List ℕ) (world : World) → StandsFor memory self.old world
+            → CameAs world (steps.frame_step world) came.old.items came.new.items }
+        ensures space { (more : ℕ) → vec_len came.old + (4 + more) ≤ vec_capacity came.old
+            → vec_len came.new + more ≤ vec_capacity came.new }
     {
         // The controller stands for some world, by which a frame has at most four blocks.
         self.device.is_some_world();
         let mut bytes = [0; MOST_FRAME_BYTES];
-        match self.frame(&mut bytes) {
+        match self.frame(&mut bytes, came) {
             Frame::Idle => {}
             Frame::Gap => {}
             Frame::Blocks(blocks) => self.hear_frame(blocks, &bytes, heard),
@@ -83,8 +94,9 @@ impl Controller {
     }
 
     /// Lets so many link frames pass, whose blocks are heard together.
-    fn link_together(&mut self, frames: u32, heard: &mut HeardLists)
+    fn link_together(&mut self, frames: u32, heard: &mut HeardLists, came: &mut Vec<bool>)
         requires room { HasRoom (4 * frames) heard.old }
+        requires space { vec_len came.old + 4 * frames ≤ vec_capacity came.old }
         requires lists { AreHeardAs self.old.kind self.old.device.codecs heard.old }
         ensures stands { (memory : List ℕ) (world : World) → StandsFor memory self.old world
             → StandsFor memory self.new (steps.times frames steps.frame_step world) }
@@ -93,11 +105,15 @@ impl Controller {
         ensures room { (more : ℕ) → HasRoom (4 * frames + more) heard.old → HasRoom more heard.new }
         ensures kept { self.new.kept ≡ self.old.kept }
         ensures kind { self.new.kind ≡ self.old.kind }
+        ensures came { (memory : List ℕ) (world : World) → StandsFor memory self.old world
+            → CameAs world (steps.times frames steps.frame_step world) came.old.items came.new.items }
+        ensures space { (more : ℕ) → vec_len came.old + (4 * frames + more) ≤ vec_capacity came.old
+            → vec_len came.new + more ≤ vec_capacity came.new }
     {
         let mut bytes = [0; MOST_FRAME_BYTES];
         let mut unheard = Unheard::new();
         for _passed in 0..frames {
-            self.link_frame(&mut bytes, &mut unheard, heard);
+            self.link_frame(&mut bytes, &mut unheard, heard, came);
         }
         self.hear(unheard.as_slice(), heard);
     }
@@ -109,10 +125,12 @@ impl Controller {
         bytes: &mut [u8; MOST_FRAME_BYTES],
         unheard: &mut Unheard,
         heard: &mut HeardLists,
+        came: &mut Vec<bool>,
     )
         requires whole { AreWhole (layout_now self.old.device) unheard.old.items }
         requires room { HasRoom (block_count (layout_now self.old.device) unheard.old.items + 4) heard.old }
         requires lists { AreHeardAs self.old.kind self.old.device.codecs heard.old }
+        requires space { vec_len came.old + 4 ≤ vec_capacity came.old }
         ensures stands { (memory : List ℕ) (world : World) → StandsFor memory self.old world
             → StandsFor memory self.new (steps.frame_step world) }
         ensures heard { (memory : List ℕ) (world : World) → StandsFor memory self.old world
@@ -126,10 +144,14 @@ impl Controller {
         ensures lists { AreHeardAs self.new.kind self.new.device.codecs heard.new }
         ensures kept { self.new.kept ≡ self.old.kept }
         ensures kind { self.new.kind ≡ self.old.kind }
+        ensures came { (memory : List ℕ) (world : World) → StandsFor memory self.old world
+            → CameAs world (steps.frame_step world) came.old.items came.new.items }
+        ensures space { (more : ℕ) → vec_len came.old + (4 + more) ≤ vec_capacity came.old
+            → vec_len came.new + more ≤ vec_capacity came.new }
     {
         // The controller stands for some world, by which a frame has at most four blocks.
         self.device.is_some_world();
-        match self.frame(bytes) {
+        match self.frame(bytes, came) {
             Frame::Idle => {}
             Frame::Gap => {}
             Frame::Blocks(blocks) => self.keep(blocks, bytes, unheard, heard),

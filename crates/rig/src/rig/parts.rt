@@ -32,6 +32,13 @@ impl Rig {
         Ok(items)
     }
 
+    /// Of each block that came to the input stream since its RUN rose, oldest first, whether it was taken.
+    pub fn taken(&self) -> &[bool]
+        ensures { result.now ≡ (world_of (telling_of self.now)).came }
+    {
+        self.recording.came.as_slice()
+    }
+
     /// All that happened, oldest first.
     pub fn journal(&self) -> &Journal
         ensures { events_of result.now ≡ (telling_of self.now).journal }

@@ -6,7 +6,7 @@ use Rattle.hda_files.specs.declared.machine.CodecFile.{CodecFile}
 use Rattle.hda_files.specs.declared.machine.Machine.{Machine}
 use Rattle.hda_world.specs.declared.world.TheConstants.{REGION_BYTES}
 use Rattle.hda_world.specs.Events.{Event, AreHonest}
-use Rattle.hda_world.specs.Tellings.{world_of}
+use Rattle.hda_world.specs.Tellings.{Telling, world_of}
 use Rattle.hda_world.specs.JournalEvents.{events_of}
 use Rattle.sound_report.specs.declared.played.Played.{Played}
 use Rattle.driver_bring_up.specs.Jacks.{Counts}
@@ -34,7 +34,7 @@ use Rattle.program_runs.proofs.Listed.{lists_are}
 use Rattle.program_runs.proofs.LineRecorded.{RunLaws, ring_some}
 use Rattle.program_runs.proofs.Played.{driven}
 use Rattle.program_runs.proofs.PlayedFrom.{source_for, fed_at_open, beside_first, sound_is_read, cut_is_under, none_empty, frames_given, given_most, not_memory}
-use Rattle.program_runs.proofs.PlayedOver.{CanPlayFrom, sound, streams, some_block, over, used, end_is, few}
+use Rattle.program_runs.proofs.PlayedOver.{CanPlayFrom, sound, streams, some_block, over, used, ends_at, end_is, few}
 use Rattle.program_runs.proofs.playing.play.Given.{Over}
 use Rattle.program_runs.proofs.playing.play.Goals.{After-block_bytes-2, After-drop-closed-3}
 use Rattle.program_runs.proofs.playing.play.Goals as goal
@@ -261,10 +261,12 @@ returns-clause-played g c =
       line_late = c.runs_write_the_line.ensures.late;
     } in
     let journal = (telling_of c.drive.new.rig).journal in
+    let told_at : telling_of c.drive.new.rig ≡ telling_from REGION_BYTES machine journal =
+    ends_at c.in_ok-driver.driver.setter.kind c.args.machine c.args.plans.items c.args.head c.args.name.now c.args.geometry c.args.schedule.now c.in_ok-driver.driver.bring_up c.in_ok-driver.driver.writer c.in_ok-driver.driver.supply c.in_ok-driver.driver.play c.in_ok-rig.rig c.drive.new.rig (shelves_of (g.S.Shelf.told c.args.shelf.now) (g.S.Shelf.faults c.args.shelf.now) (g.S.Shelf.empties c.args.shelf.now) (g.S.Shelf.given c.args.shelf.now)) (shelves_of (g.S.Shelf.told c.drive.new.shelf) (g.S.Shelf.faults c.drive.new.shelf) (g.S.Shelf.empties c.drive.new.shelf) (g.S.Shelf.given c.drive.new.shelf)) c.drive.new.cut c.in_ok-driven.driven.closed c.in_ok-driven.driven.read (can_after g c) c.in_ok-driven.ensures.driven in
     let heard : map handed_out c.parts-machine.result.1 ≡ lists_heard kind (world_of (telling_from REGION_BYTES machine journal)).carried machine.codecs c.args.plans.items =
     lists_are c.one_order_of_each_kind.ensures kind head.format machine.codecs c.args.plans.items (world_of (telling_from REGION_BYTES machine journal)) c.parts-machine.result.1
     (subst (λ (kind : PinKind). AreHeardInAs kind (world_of (telling_from REGION_BYTES machine journal)) c.parts-machine.result.1) (kind_there g c)
-    (subst (λ (machine : Machine). AreHeardInAs (setting_of c.drive.new.rig).kind (world_of (telling_from REGION_BYTES machine journal)) c.parts-machine.result.1) (machine_there g c)
+    (subst (λ (telling : Telling). AreHeardInAs (setting_of c.drive.new.rig).kind (world_of telling) c.parts-machine.result.1) told_at
     c.parts-machine.ensures.heard))
     (subst (λ (kind : PinKind). ∥ AreListsAs kind (graphs_in machine.codecs) c.parts-machine.result.1 ∥₁) (kind_there g c)
     (subst (λ (machine : Machine). ∥ AreListsAs (setting_of c.drive.new.rig).kind (graphs_in machine.codecs) c.parts-machine.result.1 ∥₁) (machine_there g c) c.parts-machine.ensures.pins))

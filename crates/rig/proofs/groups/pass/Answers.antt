@@ -16,7 +16,7 @@ returns-then-number-groups-clause-room c entries bytes items room =
     let before : steps_before c.args.number c.args.groups.now ≡ c.as_slice.result.now =
     ap steps_of (slice_get_here c.args.groups.now c.args.number _ _ c.if-number-groups.true c.index-groups-number.is) ∙ (ap (λ (group : Group). group.steps) c.index-groups-number.is ∙ sym c.as_slice.ensures) in
     c.make_steps.ensures.room entries bytes items
-    (subst (λ (steps : List Step). HasRoomFor (length steps + entries) bytes (items_for steps + items) c.args.recording.now.journal c.args.recording.now.heard) before room)
+    (subst (λ (steps : List Step). HasRoomFor (length steps + entries) bytes (items_for steps + items) c.args.recording.now.journal c.args.recording.now.heard c.args.recording.now.came) before room)
 
 pub returns-else-number-groups-clause-told : goal.returns-else-number-groups-clause-told
 returns-else-number-groups-clause-told c =

@@ -13,5 +13,5 @@ invariant-loop-group l = record {
   machine : l.recording.machine ≡ l.fn.recording.machine;
   kind : l.recording.kind ≡ l.fn.recording.kind;
   room : (entries bytes items : ℕ) → HasRoomFor (step_count (take l.group-index l.groups) + entries) bytes (item_count (take l.group-index l.groups) + items)
-      l.fn.recording.journal l.fn.recording.heard → HasRoomFor entries bytes items l.recording.journal l.recording.heard;
+      l.fn.recording.journal l.fn.recording.heard l.fn.recording.came → HasRoomFor entries bytes items l.recording.journal l.recording.heard l.recording.came;
 }

@@ -18,6 +18,7 @@ invariant_of-self c =
     let before : DeviceState = record { registers = c.self.inside.registers; codecs = c.self.inside.codecs.items; waiting = c.self.inside.rings; frames = c.self.inside.frames; input = c.self.inside.input; output = c.self.inside.output } in
     let back = put_back c.args.codec without_first c.self.inside.codecs c.pop.new.codecs (c.pop.ensures.codecs ∙ ap (with_codec c.args.codec without_first) c.as_mut_slice.ensures.value) in
     keeps_queues before _ _ c.self.invariant (ap addresses_of back ∙ addresses-with_codec c.args.codec without_first (λ codec. refl) before.codecs)
+    (subst (λ (codecs : List CodecState). KeepCodecs before.codecs codecs) (sym back) (keeps-with_codec c.args.codec without_first (λ codec. refl) (λ codec. refl) before.codecs))
 
 pub returns-in-Some-clause-stands : goal.returns-in-Some-clause-stands
 returns-in-Some-clause-stands c memory world is =

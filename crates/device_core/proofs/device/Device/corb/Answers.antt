@@ -6,6 +6,8 @@ use Rattle.world_steps.specs.declared.Step.TheVariants as step
 use Rattle.hda_world.specs.Worlds.{codec_at, with_codec}
 use Rattle.hda_world.specs.Steps.{address_of, is_busy, corb_step}
 use Rattle.device_core.specs.Codecs.{addresses_of, handed_by, handed_now}
+use Rattle.device_core.specs.Captures.{CaptureState}
+use Rattle.device_core.specs.declared.capture.Source.TheVariants.{Stale}
 use Rattle.device_core.specs.Devices.{DeviceState, IsWorld}
 use Rattle.device_core.specs.Keeping.{IsDevice}
 use Rattle.device_core.proofs.Places.{put_back}
@@ -30,9 +32,10 @@ invariant_of-self c =
     let next = sym c.next_word.ensures ∙ c.in-Some.is in
     let free = ap (λ (codecs : List CodecState). is_busy (codec_at (address_of word) codecs)) (sym c.as_slice.ensures.value) ∙ (sym c.is_busy.ensures ∙ c.if-is_busy.false) in
     let back = put_back (address_of word) (λ codec. taken codec word) c.self.inside.codecs c.hand.new.codecs (c.hand.ensures.codecs ∙ ap (with_codec (address_of word) (λ codec. taken codec word)) c.as_mut_slice.ensures.value) in
-    let moved = corb_handed memory before (shown_world memory before) word c.corb-word.new.regs (with_items c.self.inside.codecs c.hand.new.codecs).items (shown_is memory before c.self.invariant) next free c.corb-word.ensures.registers back in
-    subst (λ (waiting : List Response). IsDevice (record before { registers = c.corb-word.new.regs; codecs = (with_items c.self.inside.codecs c.hand.new.codecs).items; waiting = waiting })) (sym c.corb-word.ensures.waiting)
-    (step_keeps step.Corb memory memory before _ c.self.invariant moved (corb_still (shown_world memory before)) (ap addresses_of back ∙ addresses-with_codec (address_of word) (λ codec. taken codec word) (λ codec. refl) before.codecs) refl refl)
+    let moved = corb_handed memory before (shown_world memory before) word c.corb-word.new.regs (with_items c.self.inside.codecs c.hand.new.codecs).items Stale (shown_is memory before c.self.invariant) next free c.corb-word.ensures.registers back in
+    subst (λ (input : CaptureState). IsDevice (record before { registers = c.corb-word.new.regs; codecs = (with_items c.self.inside.codecs c.hand.new.codecs).items; waiting = c.corb-word.new.self; input = input })) (sym c.forget.ensures)
+    (subst (λ (waiting : List Response). IsDevice (record before { registers = c.corb-word.new.regs; codecs = (with_items c.self.inside.codecs c.hand.new.codecs).items; waiting = waiting; input = record before.input { source = Stale } })) (sym c.corb-word.ensures.waiting)
+    (step_keeps step.Corb memory memory before _ c.self.invariant moved (corb_still (shown_world memory before)) (ap addresses_of back ∙ addresses-with_codec (address_of word) (λ codec. taken codec word) (λ codec. refl) before.codecs) tt refl refl))
 
 pub returns-clause-stands : goal.returns-clause-stands
 returns-clause-stands c world is =
@@ -43,8 +46,9 @@ returns-clause-stands c world is =
     let next = sym c.next_word.ensures ∙ c.in-Some.is in
     let free = ap (λ (codecs : List CodecState). is_busy (codec_at (address_of word) codecs)) (sym c.as_slice.ensures.value) ∙ (sym c.is_busy.ensures ∙ c.if-is_busy.false) in
     let back = put_back (address_of word) (λ codec. taken codec word) c.self.inside.codecs c.hand.new.codecs (c.hand.ensures.codecs ∙ ap (with_codec (address_of word) (λ codec. taken codec word)) c.as_mut_slice.ensures.value) in
-    subst (λ (waiting : List Response). IsWorld memory (record before { registers = c.corb-word.new.regs; codecs = (with_items c.self.inside.codecs c.hand.new.codecs).items; waiting = waiting }) (corb_step world)) (sym c.corb-word.ensures.waiting)
-    (corb_handed memory before world word c.corb-word.new.regs (with_items c.self.inside.codecs c.hand.new.codecs).items here next free c.corb-word.ensures.registers back)
+    subst (λ (input : CaptureState). IsWorld memory (record before { registers = c.corb-word.new.regs; codecs = (with_items c.self.inside.codecs c.hand.new.codecs).items; waiting = c.corb-word.new.self; input = input }) (corb_step world)) (sym c.forget.ensures)
+    (subst (λ (waiting : List Response). IsWorld memory (record before { registers = c.corb-word.new.regs; codecs = (with_items c.self.inside.codecs c.hand.new.codecs).items; waiting = waiting; input = record before.input { source = Stale } }) (corb_step world)) (sym c.corb-word.ensures.waiting)
+    (corb_handed memory before world word c.corb-word.new.regs (with_items c.self.inside.codecs c.hand.new.codecs).items Stale here next free c.corb-word.ensures.registers back))
 
 pub returns-clause-there : goal.returns-clause-there
 returns-clause-there c =

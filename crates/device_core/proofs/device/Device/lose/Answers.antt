@@ -14,6 +14,7 @@ invariant_of-self c =
     let before : DeviceState = record { registers = c.self.inside.registers; codecs = c.self.inside.codecs.items; waiting = c.self.inside.rings; frames = c.self.inside.frames; input = c.self.inside.input; output = c.self.inside.output } in
     let back = put_back c.args.codec without_answer c.self.inside.codecs c.lose.new.codecs (c.lose.ensures ∙ ap (with_codec c.args.codec without_answer) c.as_mut_slice.ensures.value) in
     keeps_queues before _ before.waiting c.self.invariant (ap addresses_of back ∙ addresses-with_codec c.args.codec without_answer (λ codec. refl) before.codecs)
+    (subst (λ (codecs : List CodecState). KeepCodecs before.codecs codecs) (sym back) (keeps-with_codec c.args.codec without_answer (λ codec. refl) (λ codec. refl) before.codecs))
 
 pub returns-then-is_out_of_reset-clause-stands : goal.returns-then-is_out_of_reset-clause-stands
 returns-then-is_out_of_reset-clause-stands c memory world is =

@@ -15,6 +15,8 @@ invariant_of-self c =
     let before : DeviceState = record { registers = c.self.inside.registers; codecs = c.self.inside.codecs.items; waiting = c.self.inside.rings; frames = c.self.inside.frames; input = c.self.inside.input; output = c.self.inside.output } in
     let back = put_back c.args.codec (λ codec. plugged codec c.args.nid c.args.present) c.self.inside.codecs c.plug.new.codecs (c.plug.ensures ∙ ap (with_codec c.args.codec (λ codec. plugged codec c.args.nid c.args.present)) c.as_mut_slice.ensures.value) in
     keeps_queues before _ before.waiting c.self.invariant (ap addresses_of back ∙ addresses-with_codec c.args.codec (λ codec. plugged codec c.args.nid c.args.present) (graph-plugged c.args.nid c.args.present) before.codecs)
+    (subst (λ (codecs : List CodecState). KeepCodecs before.codecs codecs) (sym back)
+    (keeps-with_codec c.args.codec (λ codec. plugged codec c.args.nid c.args.present) (graph-plugged c.args.nid c.args.present) (settings-plugged c.args.nid c.args.present) before.codecs))
 
 pub returns-clause-stands : goal.returns-clause-stands
 returns-clause-stands c memory world is =

@@ -10,7 +10,7 @@ invariant_of-self c =
     let before : DeviceState = record { registers = c.self.inside.registers; codecs = c.self.inside.codecs.items; waiting = c.self.inside.rings; frames = c.self.inside.frames; input = c.self.inside.input; output = c.self.inside.output } in
     let e = c.rirb-written.ensures in
     let moved = rirb_moved c.args.memory.now c.rirb-written.new.memory before (shown_world c.args.memory.now before) c.rirb-written.new.regs c.rirb-written.new.self c.rirb-written.result (shown_is c.args.memory.now before c.self.invariant) e.registers e.memory e.number e.waiting in
-    step_keeps step.Rirb c.args.memory.now c.rirb-written.new.memory before _ c.self.invariant moved (rirb_still (shown_world c.args.memory.now before)) refl refl refl
+    step_keeps step.Rirb c.args.memory.now c.rirb-written.new.memory before _ c.self.invariant moved (rirb_still (shown_world c.args.memory.now before)) refl c.self.invariant.source_is refl refl
 
 pub returns-clause-stands : goal.returns-clause-stands
 returns-clause-stands c world is =

@@ -4,9 +4,9 @@ use Rattle.hda_world.specs.Worlds.{World}
 use Rattle.hda_world.specs.Steps.{times, frame_step}
 use Rattle.heard_lists.specs.Listings.{Listing, HasRoom}
 use Rattle.hda_controller.specs.Controllers.{StandsFor, signal_now}
-use Rattle.hda_controller.specs.Hearing.{GrewAs}
+use Rattle.hda_controller.specs.Hearing.{CameAs, GrewAs}
 use Rattle.hda_controller.specs.Unheard.{AreWhole, block_count, heard_now, layout_now}
-use Rattle.hda_controller.proofs.Growth.{grew_still, grew_on, times-one_more}
+use Rattle.hda_controller.proofs.Growth.{grew_still, grew_on, came_still, came_on, times-one_more}
 use Rattle.hda_controller.proofs.Unheard.{count-none, heard-none, whole-none}
 use Rattle.hda_controller.proofs.controller.Controller.link_together.Goals as goal
 use Rattle.heard_lists.proofs.Callers.{HasRoom-fewer}
@@ -27,6 +27,8 @@ loop-passed-init c =
       lists = c.requires.lists;
       kept = refl;
       kind = refl;
+      came = λ memory world is. came_still world world c.args.came.now.items refl;
+      space = λ more fits. omega (arith, fits);
     }
 
 pub link_frame-requires-clause-room : goal.link_frame-requires-clause-room
@@ -66,6 +68,12 @@ loop-passed-preserved c =
       lists = c.link_frame.ensures.lists;
       kept = c.link_frame.ensures.kept ∙ c.loop-passed.invariant.kept;
       kind = c.link_frame.ensures.kind ∙ c.loop-passed.invariant.kind;
+      came = λ memory world is.
+          subst (λ (w : World). CameAs world w c.args.came.now.items c.link_frame.new.came.items) (sym (times-one_more passed frame_step world))
+          (came_on world (times passed frame_step world) (frame_step (times passed frame_step world)) c.args.came.now.items c.loop-passed.came.items c.link_frame.new.came.items
+          (c.loop-passed.invariant.came memory world is) (c.link_frame.ensures.came memory (times passed frame_step world) (c.loop-passed.invariant.stands memory world is)));
+      space = λ more fits.
+          c.link_frame.ensures.space (4 * left + more) (let room = c.loop-passed.invariant.space more fits in omega (arith, test, room));
     }
 
 pub hear-requires-clause-room : goal.hear-requires-clause-room
@@ -104,6 +112,17 @@ returns-clause-room c more has =
 
 pub returns-clause-kept : goal.returns-clause-kept
 returns-clause-kept c = c.loop-passed.invariant.kept
+
+pub link_frame-requires-clause-space : goal.link_frame-requires-clause-space
+link_frame-requires-clause-space c = (let test = c.loop-passed-test.true in let room = c.loop-passed.invariant.space 0 (omega (arith, c.requires.space)) in omega (arith, test, room))
+
+pub returns-clause-came : goal.returns-clause-came
+returns-clause-came c memory world is =
+    let end : c.loop-passed._passed ≡ c.args.frames = omega arith in
+    subst (λ (n : ℕ). CameAs world (times n frame_step world) c.args.came.now.items c.loop-passed.came.items) end (c.loop-passed.invariant.came memory world is)
+
+pub returns-clause-space : goal.returns-clause-space
+returns-clause-space c more fits = (let room = c.loop-passed.invariant.space more fits in omega (arith, room))
 
 pub returns-clause-kind : goal.returns-clause-kind
 returns-clause-kind c = c.loop-passed.invariant.kind

@@ -1,8 +1,8 @@
-use Rattle.std.proofs.Common.{◌≡◌, ◌+◌, ◌-◌, ◌*◌, ℕ, List}
+use Rattle.std.proofs.Common.{◌≡◌, ◌≤◌, ◌+◌, ◌-◌, ◌*◌, ℕ, List, vec_len, vec_capacity}
 use Rattle.hda_world.specs.Worlds.{World}
 use Rattle.heard_lists.specs.Listings.{HasRoom}
 use Rattle.hda_controller.specs.Controllers.{StandsFor}
-use Rattle.hda_controller.specs.Hearing.{AreHeardAs, GrewAs}
+use Rattle.hda_controller.specs.Hearing.{AreHeardAs, CameAs, GrewAs}
 use Rattle.hda_controller.specs.Unheard.{AreWhole, block_count, heard_now, layout_now}
 use Rattle.hda_world.specs.Steps.{times, frame_step}
 use Rattle.hda_controller.proofs.controller.Controller.link_together.Given as goal
@@ -19,4 +19,8 @@ invariant-loop-passed l = record {
   lists : AreHeardAs l.self.kind l.self.device.codecs l.heard;
   kept : l.self.kept ≡ l.initial.self.kept;
   kind : l.self.kind ≡ l.initial.self.kind;
+  came : (memory : List ℕ) (world : World) → StandsFor memory l.initial.self world
+      → CameAs world (times l._passed frame_step world) l.initial.came.items l.came.items;
+  space : (more : ℕ) → vec_len l.initial.came + (4 * l.frames + more) ≤ vec_capacity l.initial.came
+      → vec_len l.came + (4 * (l.frames - l._passed) + more) ≤ vec_capacity l.came;
 }

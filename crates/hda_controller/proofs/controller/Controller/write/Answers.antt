@@ -1,4 +1,5 @@
-use Rattle.std.proofs.Common.{◌≡◌, List, map, ap, sym, subst, refl, ◌∙◌}
+use Rattle.std.proofs.Common.{◌≡◌, List, [], ◌∷◌, map, ap, sym, subst, refl, ◌∙◌}
+use Rattle.hda_world.specs.Events.{Write}
 use Rattle.std.specs.Vec.{with_items}
 use Rattle.codec_sound.specs.Keeping.{KeptSignals}
 use Rattle.device_core.specs.Sound.{touches_sound}
@@ -39,3 +40,11 @@ pub returns-clause-addresses : goal.returns-clause-addresses
 returns-clause-addresses c =
     addresses_by c.self.inside.device.codecs c.write.new.self.codecs c.write.ensures.codecs.graphs
     ∙ ap (λ (state : ControllerState). addresses_of state.device.codecs) c.self.view_is
+
+pub returns-clause-given : goal.returns-clause-given
+returns-clause-given c =
+    let some = c.is_some_world.ensures [] in
+    let now = c.write.ensures.stands [] some.0 some.1 in
+    sym now.captured.given_is
+    ∙ (c.the_given_sound_stays.ensures (Write c.args.at c.args.width c.args.value ∷ []) some.0
+    ∙ (some.1.captured.given_is ∙ ap (λ (state : ControllerState). state.device.input.given) c.self.view_is))

@@ -8,6 +8,6 @@ pub invariant_of-self : goal.invariant_of-self
 invariant_of-self c = record {
   whole = c.args.self.now.whole;
   honest = honest_more _ _ _ _ c.args.self.now.honest c.note_end.ensures.events tt;
-  stands = ∥∥₁_map c.args.self.now.stands (λ was. where_seen _ _ _ _ _ _ _ End was c.note_end.ensures.events refl);
+  stands = ∥∥₁_map c.args.self.now.stands (λ was. where_seen _ _ _ _ _ _ _ _ End was c.note_end.ensures.events refl);
   pins = c.args.self.now.pins;
 }

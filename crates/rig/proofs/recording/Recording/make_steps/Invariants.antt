@@ -11,6 +11,6 @@ invariant-loop-step l = record {
   told : Went (told_of l.fn.self) (told_of l.self) (map Stepped (take l.step-index l.steps));
   machine : l.self.machine ≡ l.fn.self.machine;
   kind : l.self.kind ≡ l.fn.self.kind;
-  room : (entries bytes items : ℕ) → HasRoomFor (l.step-index + entries) bytes (items_for (take l.step-index l.steps) + items) l.fn.self.journal l.fn.self.heard
-      → HasRoomFor entries bytes items l.self.journal l.self.heard;
+  room : (entries bytes items : ℕ) → HasRoomFor (l.step-index + entries) bytes (items_for (take l.step-index l.steps) + items) l.fn.self.journal l.fn.self.heard l.fn.self.came
+      → HasRoomFor entries bytes items l.self.journal l.self.heard l.self.came;
 }

@@ -8,7 +8,7 @@ pub invariant_of-self : goal.invariant_of-self
 invariant_of-self c = record {
   whole = c.args.self.now.whole;
   honest = honest_more _ _ _ _ c.args.self.now.honest c.note_read.ensures.events (value_there _ _ _ c.args.self.now.stands c.read-value.ensures);
-  stands = ∥∥₁_map c.args.self.now.stands (λ was. where_seen _ _ _ _ _ _ _ (Read c.args.at c.args.width c.read-value.result) was c.note_read.ensures.events refl);
+  stands = ∥∥₁_map c.args.self.now.stands (λ was. where_seen _ _ _ _ _ _ _ _ (Read c.args.at c.args.width c.read-value.result) was c.note_read.ensures.events refl);
   pins = c.args.self.now.pins;
 }
 

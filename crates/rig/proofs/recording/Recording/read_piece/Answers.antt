@@ -21,6 +21,6 @@ invariant_of-self c =
       honest = honest_more _ _ _ _ c.args.self.now.honest more
           (piece_there _ c.args.self.now.memory.items _ _ _ 4194304 (memory_there c.args.self.now.stands)
           (c.copy_piece.ensures ∙ ap (λ (memory : List ℕ). slice_range memory c.args.address (c.args.address + length c.args.into.now)) c.deref.ensures.value) long c.args.self.now.whole c.requires.within);
-      stands = ∥∥₁_map c.args.self.now.stands (λ was. where_seen _ _ _ _ _ _ _ (DmaRead c.args.address c.copy_piece.new.into) was more refl);
+      stands = ∥∥₁_map c.args.self.now.stands (λ was. where_seen _ _ _ _ _ _ _ _ (DmaRead c.args.address c.copy_piece.new.into) was more refl);
       pins = c.args.self.now.pins;
     }

@@ -1,11 +1,13 @@
-use Rattle.std.proofs.Common.{ℕ, List, refl, sym, ap, subst, ◌∙◌, length, arith}
+use Rattle.std.proofs.Common.{◌+◌, ℕ, List, refl, sym, ap, subst, ◌∙◌, length, arith}
 use Rattle.std.proofs.Props.{props}
 use Rattle.std.proofs.Math.Logic.{∥∥₁_map, ∥∥₁_map₂, ∥∥₁_elim}
 use Rattle.hda_world.specs.Worlds.{World}
 use Rattle.hda_world.specs.Steps.{after_step}
 use Rattle.hda_controller.specs.Controllers.{StandsFor}
 use Rattle.hda_controller.specs.Hearing.{GrewAs}
-use Rattle.rig.proofs.Where.{honest_more, where_stepped, listed_stepped, whole_write}
+use Rattle.rig.proofs.Rooming.{room_noted}
+use Rattle.rig.proofs.Opened.{fewer_bytes}
+use Rattle.rig.proofs.Where.{honest_more, honest_given, where_given, where_stepped, listed_stepped, whole_write}
 use Rattle.rig.proofs.recording.Recording.step.Goals as goal
 
 pub step-requires-clause-lists : goal.step-requires-clause-lists
@@ -21,9 +23,14 @@ invariant_of-self c =
     λ world stood. c.step.ensures.heard world (subst (λ (bytes : List ℕ). StandsFor bytes c.args.self.now.controller world) (sym c.as_mut_slice.ensures.value) stood) in
     record {
       whole = ap length memory ∙ (c.step.auto.memory ∙ (ap length c.as_mut_slice.ensures.value ∙ c.args.self.now.whole));
-      honest = honest_more _ _ _ _ c.args.self.now.honest c.note_step.ensures.events tt;
+      honest = honest_given 4194304 c.args.self.now.machine c.args.self.now.controller.device.input.given _ _ c.step.ensures.given (honest_more _ _ _ _ c.args.self.now.honest c.note_step.ensures.events tt);
       stands = ∥∥₁_map c.args.self.now.stands (λ was.
-          where_stepped _ _ _ _ _ _ _ c.args.step.now _ c.step.new.self c.step.new.heard was c.note_step.ensures.events
-          (λ world stood. subst (λ (bytes : List ℕ). StandsFor bytes c.step.new.self (after_step c.args.step.now world)) (sym memory) (stands world stood)) grew c.step.ensures.lists c.step.ensures.kind);
+          where_given _ 4194304 c.args.self.now.machine c.args.self.now.controller.device.input.given _ _ _ _ _ _ c.step.ensures.given
+          (where_stepped _ _ _ _ _ _ _ _ c.args.step.now _ c.step.new.self c.step.new.heard c.step.new.came.items was c.note_step.ensures.events
+          (λ world stood. subst (λ (bytes : List ℕ). StandsFor bytes c.step.new.self (after_step c.args.step.now world)) (sym memory) (stands world stood)) grew c.step.ensures.lists c.step.ensures.kind
+          (λ world stood. c.step.ensures.came world (subst (λ (bytes : List ℕ). StandsFor bytes c.args.self.now.controller world) (sym c.as_mut_slice.ensures.value) stood))));
       pins = ∥∥₁_map₂ c.args.self.now.stands c.args.self.now.pins (λ was are. listed_stepped _ _ _ _ _ _ _ (grew _ was.stands) are);
     }
+
+pub returns-clause-room : goal.returns-clause-room
+returns-clause-room c entries bytes items room = room_noted entries bytes items _ 0 _ _ _ _ _ _ c.note_step.ensures.used (c.step.ensures.room items) (c.step.ensures.space items) (fewer_bytes (1 + entries) bytes (0 + bytes) _ _ _ _ (omega arith) room)

@@ -21,6 +21,6 @@ invariant_of-self c =
       whole = ap length kept ∙ (c.store_piece.auto.memory ∙ (ap length c.deref_mut.ensures.value ∙ c.args.self.now.whole));
       honest = honest_more _ _ _ _ c.args.self.now.honest more
           (room_there _ c.args.self.now.memory.items _ _ 4194304 (memory_there c.args.self.now.stands) c.args.self.now.whole c.requires.within);
-      stands = ∥∥₁_map c.args.self.now.stands (λ was. where_stored _ _ _ _ _ _ _ c.args.address c.args.piece.now _ was more memory);
+      stands = ∥∥₁_map c.args.self.now.stands (λ was. where_stored _ _ _ _ _ _ _ _ c.args.address c.args.piece.now _ was more memory);
       pins = c.args.self.now.pins;
     }

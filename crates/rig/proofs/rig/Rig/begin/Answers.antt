@@ -16,6 +16,6 @@ invariant_of-self-2 c =
       counts = omega (arith, c.ranges.accesses);
       laid = λ _. began c.entry_count-self.result c.in_ok-copies.copies _ _ c.entry_count-self.ensures c.begin.ensures.told.journal;
       numbered = λ _. began_count c.entry_count-self.result c.in_ok-copies.copies _ _ c.entry_count-self.ensures c.begin.ensures.told.journal;
-      room = λ _. c.begin.ensures.room _ _ _ (less_room _ _ _ (1 + (c.args.accesses + 1 + step_count c.in_ok-copies.copies)) c.args.bytes (item_count c.in_ok-copies.copies) _ _
+      room = λ _. c.begin.ensures.room _ _ _ (less_room _ _ _ (1 + (c.args.accesses + 1 + step_count c.in_ok-copies.copies)) c.args.bytes (item_count c.in_ok-copies.copies) _ _ _
           (omega (arith, steps, asked)) (omega arith) (omega (arith, items, heard)) c.in_ok-reserve.ensures.room);
     }

@@ -14,16 +14,16 @@ pub pass_all-requires : goal.pass_all-requires
 pass_all-requires c =
     let rig = c.args.self.now in
     let same : c.groups_left-left.result.now ≡ drop rig.made rig.groups = c.groups_left-left.ensures ∙ ap (drop rig.made) c.as_slice.ensures in
-    subst (λ (groups : List Group). HasRoomFor (step_count groups) 0 (item_count groups) rig.recording.journal rig.recording.heard) (sym same)
-    (less_room _ _ _ (step_count (drop rig.made rig.groups)) 0 (item_count (drop rig.made rig.groups)) _ _ (omega arith) (omega arith) (omega arith) (rig.room c.requires))
+    subst (λ (groups : List Group). HasRoomFor (step_count groups) 0 (item_count groups) rig.recording.journal rig.recording.heard rig.recording.came) (sym same)
+    (less_room _ _ _ (step_count (drop rig.made rig.groups)) 0 (item_count (drop rig.made rig.groups)) _ _ _ (omega arith) (omega arith) (omega arith) (rig.room c.requires))
 
 pub end-requires : goal.end-requires
 end-requires c =
     let rig = c.args.self.now in
     let same : c.groups_left-left.result.now ≡ drop rig.made rig.groups = c.groups_left-left.ensures ∙ ap (drop rig.made) c.as_slice.ensures in
     c.pass_all.ensures.room 1 0 0
-    (subst (λ (groups : List Group). HasRoomFor (step_count groups + 1) 0 (item_count groups + 0) rig.recording.journal rig.recording.heard) (sym same)
-    (less_room _ _ _ (step_count (drop rig.made rig.groups) + 1) 0 (item_count (drop rig.made rig.groups) + 0) _ _ (omega arith) (omega arith) (omega arith) (rig.room c.requires)))
+    (subst (λ (groups : List Group). HasRoomFor (step_count groups + 1) 0 (item_count groups + 0) rig.recording.journal rig.recording.heard rig.recording.came) (sym same)
+    (less_room _ _ _ (step_count (drop rig.made rig.groups) + 1) 0 (item_count (drop rig.made rig.groups) + 0) _ _ _ (omega arith) (omega arith) (omega arith) (rig.room c.requires)))
 
 pub returns-clause-told : goal.returns-clause-told
 returns-clause-told c = record { is = ended_by _ _ _ c.groups_left-left.result.now _ c.pass_all.ensures.told c.end.ensures.told }

@@ -13,15 +13,15 @@ pub pass-requires : goal.pass-requires
 pass-requires c =
     let rig = c.args.self.now in
     let running = is_open rig.in_run rig.spare_accesses rig.closed c.requires.room in
-    subst (λ (groups : List Group). HasRoomFor (length (steps_before rig.made groups)) 0 (items_for (steps_before rig.made groups)) rig.recording.journal rig.recording.heard)
-    (sym c.as_slice.ensures) (steps_room rig.made rig.spare_accesses rig.spare_bytes rig.groups _ _ (rig.room running))
+    subst (λ (groups : List Group). HasRoomFor (length (steps_before rig.made groups)) 0 (items_for (steps_before rig.made groups)) rig.recording.journal rig.recording.heard rig.recording.came)
+    (sym c.as_slice.ensures) (steps_room rig.made rig.spare_accesses rig.spare_bytes rig.groups _ _ _ (rig.room running))
 
 pub read_piece-requires-clause-room : goal.read_piece-requires-clause-room
 read_piece-requires-clause-room c =
     let rig = c.args.self.now in
     let running = is_open rig.in_run rig.spare_accesses rig.closed c.requires.room in
-    let passed = passed_room rig.made rig.spare_accesses rig.spare_bytes (length c.args.into.now) rig.groups c.as_slice.result.now _ _ _ _ c.as_slice.ensures c.requires.room c.requires.bytes_room (rig.room running) c.pass.ensures.room in
-    one_entry _ (length c.args.into.now) _ _ _ _ passed
+    let passed = passed_room rig.made rig.spare_accesses rig.spare_bytes (length c.args.into.now) rig.groups c.as_slice.result.now _ _ _ _ _ _ c.as_slice.ensures c.requires.room c.requires.bytes_room (rig.room running) c.pass.ensures.room in
+    one_entry _ (length c.args.into.now) _ _ _ _ _ passed
 
 pub returns-clause-told : goal.returns-clause-told
 returns-clause-told c =
@@ -39,6 +39,6 @@ invariant_of-self c =
       counts = (let b = rig.counts in omega (arith, b, c.requires.room));
       laid = laid_on rig.begun rig.made rig.groups _ _ rig.in_run (DmaRead (c.address.result + c.args.at) c.read_piece.new.into) rig.laid rig.numbered went.journal refl;
       numbered = numbered_on rig.begun rig.made rig.groups _ _ rig.in_run (DmaRead (c.address.result + c.args.at) c.read_piece.new.into) rig.laid rig.numbered went.journal refl;
-      room = λ running. fewer_bytes _ _ _ _ _ _ (let same = c.read_piece.auto.into in omega (arith, same)) (c.read_piece.ensures.room _ (rig.spare_bytes - (length c.args.into.now)) _
-          (passed_room rig.made rig.spare_accesses rig.spare_bytes (length c.args.into.now) rig.groups c.as_slice.result.now _ _ _ _ c.as_slice.ensures c.requires.room c.requires.bytes_room (rig.room running) c.pass.ensures.room));
+      room = λ running. fewer_bytes _ _ _ _ _ _ _ (let same = c.read_piece.auto.into in omega (arith, same)) (c.read_piece.ensures.room _ (rig.spare_bytes - (length c.args.into.now)) _
+          (passed_room rig.made rig.spare_accesses rig.spare_bytes (length c.args.into.now) rig.groups c.as_slice.result.now _ _ _ _ _ _ c.as_slice.ensures c.requires.room c.requires.bytes_room (rig.room running) c.pass.ensures.room));
     }

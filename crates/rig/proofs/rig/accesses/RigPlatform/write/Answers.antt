@@ -11,15 +11,15 @@ pub pass-requires : goal.pass-requires
 pass-requires c =
     let rig = c.args.self.now in
     let running = is_open rig.in_run rig.spare_accesses rig.closed c.requires.room in
-    subst (λ (groups : List Group). HasRoomFor (length (steps_before rig.made groups)) 0 (items_for (steps_before rig.made groups)) rig.recording.journal rig.recording.heard)
-    (sym c.as_slice.ensures) (steps_room rig.made rig.spare_accesses rig.spare_bytes rig.groups _ _ (rig.room running))
+    subst (λ (groups : List Group). HasRoomFor (length (steps_before rig.made groups)) 0 (items_for (steps_before rig.made groups)) rig.recording.journal rig.recording.heard rig.recording.came)
+    (sym c.as_slice.ensures) (steps_room rig.made rig.spare_accesses rig.spare_bytes rig.groups _ _ _ (rig.room running))
 
 pub write-requires : goal.write-requires
 write-requires c =
     let rig = c.args.self.now in
     let running = is_open rig.in_run rig.spare_accesses rig.closed c.requires.room in
-    let passed = passed_room rig.made rig.spare_accesses rig.spare_bytes (0) rig.groups c.as_slice.result.now _ _ _ _ c.as_slice.ensures c.requires.room (omega arith) (rig.room running) c.pass.ensures.room in
-    one_entry _ (0) _ _ _ _ passed
+    let passed = passed_room rig.made rig.spare_accesses rig.spare_bytes (0) rig.groups c.as_slice.result.now _ _ _ _ _ _ c.as_slice.ensures c.requires.room (omega arith) (rig.room running) c.pass.ensures.room in
+    one_entry _ (0) _ _ _ _ _ passed
 
 pub returns-clause-told : goal.returns-clause-told
 returns-clause-told c =
@@ -37,6 +37,6 @@ invariant_of-self c =
       counts = (let b = rig.counts in omega (arith, b, c.requires.room));
       laid = laid_on rig.begun rig.made rig.groups _ _ rig.in_run (Write c.args.at c.args.width c.args.value) rig.laid rig.numbered went.journal refl;
       numbered = numbered_on rig.begun rig.made rig.groups _ _ rig.in_run (Write c.args.at c.args.width c.args.value) rig.laid rig.numbered went.journal refl;
-      room = λ running. fewer_bytes _ _ _ _ _ _ (omega arith) (c.write.ensures.room _ (rig.spare_bytes - (0)) _
-          (fewer_bytes _ (0 + (rig.spare_bytes - 0)) (rig.spare_bytes - 0) _ _ _ (omega arith) (passed_room rig.made rig.spare_accesses rig.spare_bytes (0) rig.groups c.as_slice.result.now _ _ _ _ c.as_slice.ensures c.requires.room (omega arith) (rig.room running) c.pass.ensures.room)));
+      room = λ running. fewer_bytes _ _ _ _ _ _ _ (omega arith) (c.write.ensures.room _ (rig.spare_bytes - (0)) _
+          (fewer_bytes _ (0 + (rig.spare_bytes - 0)) (rig.spare_bytes - 0) _ _ _ _ (omega arith) (passed_room rig.made rig.spare_accesses rig.spare_bytes (0) rig.groups c.as_slice.result.now _ _ _ _ _ _ c.as_slice.ensures c.requires.room (omega arith) (rig.room running) c.pass.ensures.room)));
     }
