@@ -11,7 +11,7 @@ use stream_format::Format;
 pub const PERIOD_UNIT: u32 = 384;
 
 /// How many periods a ring has at most. This project's own.
-pub(crate) const MOST_PERIODS: u32 = 32;
+pub const MOST_PERIODS: u32 = 32;
 
 /// Why there is no geometry.
 #[derive(Clone, Copy, Debug, PartialEq, Eq)]

@@ -1,0 +1,5 @@
+pub mod ReadSteps
+pub mod RecordCourses
+pub mod RecordTurns
+pub mod Told
+pub mod Callers
