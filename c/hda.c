@@ -347,6 +347,26 @@ size_t hda_pcm(const hda_item *items, size_t count, unsigned bits, void *into) {
     return count * 2 * bytes;
 }
 
+/* ---- what comes in ---- */
+
+int hda_give(hda *d, const void *sound, size_t bytes) {
+    hda_heap *before;
+    if (!d) return HDA_CLOSED;
+    before = hda_heap_use(&d->heap);
+    done(d, hda_model_give(&d->state.model, sound ? sound : no_bytes, sound ? bytes : 0));
+    hda_heap_use(before);
+    return d->status;
+}
+
+int hda_taken(hda *d, uint64_t from, uint8_t *into, size_t count, uint64_t *came) {
+    uint64_t all = 0;
+    if (came) *came = 0;
+    if (!d) return HDA_CLOSED;
+    done(d, hda_model_copy_taken(&d->state.model, from, into ? into : no_bytes, into ? count : 0));
+    if (came && hda_model_taken_count(&d->state.model, &all) == HDA_OK) *came = all;
+    return d->status;
+}
+
 /* ---- snapshots ---- */
 
 struct hda_saved {

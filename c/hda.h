@@ -85,11 +85,12 @@ int hda_corb(hda *device);                  /* CORB's engine fetches a command a
 int hda_answer(hda *device, uint8_t codec); /* the codec sends the first answer or event that waits at it (4.4.2) */
 int hda_lose(hda *device, uint8_t codec);   /* the codec loses the first answer that waits at it */
 int hda_rirb(hda *device);                  /* RIRB's engine writes what waits, at most RINTCNT responses (4.4.2) */
-/* Stream 0 or 1 fetches at most so many bytes, 0 to 65,535 (4.5). */
+/* Stream 0 stores at most so many bytes of its FIFO in its buffers, or stream 1 fetches as many from its own into its
+ * FIFO, 0 to 65,535 (4.5). */
 int hda_fetch(hda *device, uint8_t stream, uint32_t most);
 /* So many link frames pass, of 1/48,000 second each (5.3). Room is taken first for all that pins may hear in them, up
  * to four blocks a frame, also in reset and where no stream runs; HDA_NO_MEMORY where there is none. 1,000,000 frames
- * take 264 MB for one pin, which the device keeps and each snapshot has. For a long time hda_pass takes far less. */
+ * take 268 MB for one pin, which the device keeps and each snapshot has. For a long time hda_pass takes far less. */
 int hda_link(hda *device, uint32_t frames);
 int hda_plug(hda *device, uint8_t codec, uint8_t nid);   /* something is plugged in at a pin (7.3.3.15) */
 int hda_unplug(hda *device, uint8_t codec, uint8_t nid); /* and pulled out; at a node that is no pin nothing happens */
@@ -194,6 +195,22 @@ int hda_forget(hda *device);
  * sound is 0. `bits` has to be the stream's: 16, in 2 bytes, or 24 or 32, in 4. Gives how many bytes it wrote: 4 or 8
  * an item, 0 for another number of bits. */
 size_t hda_pcm(const hda_item *items, size_t count, unsigned bits, void *into);
+
+/* ---- what comes in ---- */
+
+/* Gives all input pins this sound of `bytes` bytes, which are copied; NULL or no bytes are silence, as at the opening.
+ * The input stream has descriptor 0. While it runs, the blocks due in a link frame (5.3) come to it where exactly one
+ * input converter of all codecs has its tag and its format: the sound's block with number i, counted from the rise of
+ * RUN, as its bytes have to stand in memory (4.5.1), and silence behind the last whole one; but silence where the
+ * converter hears no pin. To be called before the first step, where all of it is to come. The status is HDA_NO_MEMORY
+ * where memory was wanting. The log has no mark of it. */
+int hda_give(hda *device, const void *sound, size_t bytes);
+
+/* Of each block that came to the input stream since its RUN rose whether it was taken: *came is how many they are, and
+ * the marks from the number `from` on, counted from 0, are copied into `into`, at most `count`: 1 where the FIFO took
+ * the block, 0 where it had no room and the block was dropped (FIFOE, 3.3.36). `came` may be NULL, and `into` where
+ * `count` is 0. A mark takes a byte, which is free again where RUN rises. */
+int hda_taken(hda *device, uint64_t from, uint8_t *into, size_t count, uint64_t *came);
 
 /* ---- a log ---- */
 

@@ -46,6 +46,16 @@ uint8_t hda_model_line(hda_model *place, uint32_t *high);
 uint8_t hda_model_step(hda_model *place, uint8_t *memory, size_t size, uint8_t kind, uint8_t part, uint8_t node,
                        uint32_t count);
 
+/* Gives all input pins these bytes, which are copied, as their sound. HDA_OK or HDA_NO_MEMORY. */
+uint8_t hda_model_give(hda_model *place, const uint8_t *sound, size_t size);
+
+/* *count is how many blocks came to the input stream since its RUN rose. */
+uint8_t hda_model_taken_count(hda_model *place, uint64_t *count);
+
+/* Copies their marks from the number `from` on, counted from 0, into `into`, at most `room`: 1 where the block was
+ * taken, 0 where it was dropped. */
+uint8_t hda_model_copy_taken(hda_model *place, uint64_t from, uint8_t *into, size_t room);
+
 /* *count is how many items a pin heard that were not forgotten, and those from the number `from` on, counted from 0,
  * are copied into `into`, at most `room`. HDA_NO_SUCH where there is no such pin; then *count is 0. */
 uint8_t hda_model_heard(hda_model *place, uint8_t codec, uint8_t nid, uint64_t from, hda_item *into, size_t room,

@@ -32,6 +32,9 @@ static void no_device(void) {
     CHECK(hda_heard(none, 0, 20, 0, &item, 1, &heard) == HDA_CLOSED && heard == 0 && item.kind == 9);
     CHECK(hda_forget(none) == HDA_CLOSED && hda_keep_log(none, 1) == HDA_CLOSED && hda_log(none, &size) == NULL &&
           size == 0);
+    CHECK(hda_give(none, "sound", 5) == HDA_CLOSED);
+    heard = 9;
+    CHECK(hda_taken(none, 0, (uint8_t *)&byte, 1, &heard) == HDA_CLOSED && heard == 0 && byte == 9);
     CHECK(hda_call(none, 0) == HDA_CLOSED && hda_return(none) == HDA_CLOSED);
     CHECK(hda_log_text(none, stdout) == HDA_CLOSED && hda_log_schedule(none, stdout) == HDA_CLOSED);
     CHECK(hda_save(none) == NULL && hda_restore(none, saved) == HDA_CLOSED);
@@ -53,6 +56,11 @@ static void closed_place(hda_model *place) {
     CHECK(hda_model_heard(place, 0, 20, 0, &item, 1, &count) == HDA_CLOSED && count == 0 && item.kind == 9);
     CHECK(hda_model_forget(place) == HDA_CLOSED && hda_model_codec(place, 0) == HDA_CLOSED);
     CHECK(hda_model_pin_at(place, 0, &name) == HDA_CLOSED && name.codec == 9);
+    count = 9;
+    CHECK(hda_model_give(place, memory, sizeof memory) == HDA_CLOSED);
+    CHECK(hda_model_taken_count(place, &count) == HDA_CLOSED && count == 0);
+    memory[0] = 9;
+    CHECK(hda_model_copy_taken(place, 0, memory, 1) == HDA_CLOSED && memory[0] == 9);
     hda_model_close(place);
 }
 
@@ -128,6 +136,9 @@ static void calls(hda *d, size_t size) {
     CHECK(hda_heard(d, 0, 20, UINT64_MAX, &item, 1, &heard) == HDA_OK && item.kind == 9);
     CHECK(hda_fetch(d, 2, 4) == HDA_NO_SUCH && hda_fetch(d, 255, 4) == HDA_NO_SUCH &&
           hda_fetch(d, 1, 65536) == HDA_NO_SUCH);
+    CHECK(hda_give(d, NULL, 5) == HDA_OK && hda_give(d, &item, 0) == HDA_OK);
+    heard = 9;
+    CHECK(hda_taken(d, 0, &byte, 1, &heard) == HDA_OK && heard == 0 && byte == 9);
     CHECK(hda_fetch(d, 1, 0) == HDA_OK && hda_fetch(d, 0, 4) == HDA_OK && hda_link(d, 0) == HDA_OK);
     CHECK(hda_dma_read(d, size, &byte, 1) == HDA_OUTSIDE && byte == 9 &&
           hda_dma_write(d, size, &byte, 1) == HDA_OUTSIDE);

@@ -81,6 +81,22 @@ static void playing(void) {
     }
 }
 
+/* A sound for which memory was wanting is not given; silence wants none. */
+static void giving(void) {
+    static const uint32_t first = 0x00020001;
+    uint8_t other[100];
+    hda *d = open_device();
+    memset(other, 7, sizeof other);
+    CHECK(hda_give(d, &first, 4) == HDA_OK);
+    hda_heap_asked = 0;
+    hda_heap_refused = 1;
+    CHECK(hda_give(d, other, sizeof other) == HDA_NO_MEMORY && hda_heap_asked == 1);
+    hda_heap_refused = 0;
+    CHECK(hda_heap_asked == 1 && hda_give(d, other, sizeof other) == HDA_OK && hda_heap_asked == 2);
+    CHECK(hda_give(d, other, 0) == HDA_OK && hda_heap_asked == 2);
+    hda_close(&d);
+}
+
 int main(int argc, char **argv) {
     hda *d;
     long all;
@@ -92,6 +108,7 @@ int main(int argc, char **argv) {
     openings(all);
     steps();
     playing();
+    giving();
     CHECK(refused_steps > 0 && refused_frames > 2);
     printf("fail: %ld allocations of an opening, each refused in turn, %ld of them done without; %ld steps and "
            "%ld link frames refused; %ld wrong\n",

@@ -3,7 +3,7 @@
 #define ROWS_H
 #include "driver.h"
 
-enum { READS, WRITES, HOLDS, PUTS, LINE_IS, STEPS, NO_STEP };
+enum { READS, WRITES, HOLDS, PUTS, LINE_IS, STEPS, NO_STEP, FILLS, FRAMES_ARE, BYTES_ARE, CAME_IS, MARKS_ARE };
 
 /* `times` of it one after the other, with the same outcome each time. */
 typedef struct row {
@@ -24,7 +24,43 @@ typedef struct row {
 #define ANSWERS(times, codec) EACH(times, HDA_ANSWER, codec)
 #define RIRBS EACH(1, HDA_RIRB, 0)
 #define FETCH(count) STEP(HDA_FETCH, 1, 0, count)
+#define STORE(count) STEP(HDA_FETCH, 0, 0, count)
 #define LINK(frames) STEP(HDA_LINK, 0, 0, frames)
+#define FILL(at, size, byte) {FILLS, at, size, byte, 0, 1} /* the memory gets these bytes */
+#define FRAMES(at, count, number) {FRAMES_ARE, at, count, number, 0, 1} /* frames of numbered_frame, from one on */
+#define BYTES(at, size, byte) {BYTES_ARE, at, size, byte, 0, 1}
+#define CAME(count) {CAME_IS, count, 0, 0, 0, 1} /* so many blocks came to the input stream */
+#define MARKS(from, count, taken) {MARKS_ARE, from, count, taken, 0, 1} /* each of these was taken, or was not */
+
+/* The frame with a number: two samples of 16 bits that no other frame below 32,767 has. */
+static inline uint32_t numbered_frame(uint32_t number) { return 2 * number + 1 + ((2 * number + 2) << 16); }
+
+static inline int are_frames(const uint8_t *memory, uint32_t count, uint32_t number) {
+    uint32_t k, frame;
+    for (k = 0; k < count; k++) {
+        memcpy(&frame, memory + 4 * k, 4);
+        if (frame != numbered_frame(number + k)) return 0;
+    }
+    return 1;
+}
+
+static inline int are_bytes(const uint8_t *memory, uint32_t count, uint32_t byte) {
+    uint32_t k;
+    for (k = 0; k < count; k++)
+        if (memory[k] != byte) return 0;
+    return 1;
+}
+
+static inline int are_marks(hda *d, uint32_t from, uint32_t count, uint32_t taken) {
+    uint8_t marks[256];
+    memset(marks, 9, sizeof marks);
+    return count <= sizeof marks && hda_taken(d, from, marks, count, NULL) == HDA_OK && are_bytes(marks, count, taken);
+}
+
+static inline int came(hda *d, uint32_t count) {
+    uint64_t all;
+    return hda_taken(d, 0, NULL, 0, &all) == HDA_OK && all == count;
+}
 
 static inline int holds(hda *d, const row *one) {
     uint8_t *memory = hda_memory(d, NULL);
@@ -35,6 +71,11 @@ static inline int holds(hda *d, const row *one) {
     case HOLDS: memcpy(&word, memory + one->a, 4); return word == one->b;
     case PUTS: memcpy(memory + one->a, &one->b, 4); return 1;
     case LINE_IS: return hda_line(d) == (int)one->a;
+    case FILLS: memset(memory + one->a, (int)one->c, one->b); return 1;
+    case FRAMES_ARE: return are_frames(memory + one->a, one->b, one->c);
+    case BYTES_ARE: return are_bytes(memory + one->a, one->b, one->c);
+    case CAME_IS: return came(d, one->a);
+    case MARKS_ARE: return are_marks(d, one->a, one->b, one->c);
     case STEPS: return hda_step(d, one->a, (uint8_t)one->b, (uint8_t)one->c, one->d) == HDA_OK;
     default: return hda_step(d, one->a, (uint8_t)one->b, (uint8_t)one->c, one->d) == HDA_NO_SUCH;
     }

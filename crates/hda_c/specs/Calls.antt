@@ -33,6 +33,18 @@ pub record IsTold (text old new : List ℕ) (told : ℕ) : Type 0 where
   pub words : new ≡ copied (open_fault_text why) old
   pub count : told ≡ length (open_fault_text why)
 
+-- ---- what comes in
+
+-- a sound is given, unless memory was wanting where it has bytes
+abbrev pub IsGiveStatus : List ℕ → Option ModelState → ℕ → Type 0
+IsGiveStatus sound None status = status ≡ CLOSED
+IsGiveStatus sound (Some model) status = (status ≡ DONE) ⊎ ((status ≡ NO_MEMORY) × (0 < length sound))
+
+-- how many blocks came
+abbrev pub taken_count : Option ModelState → ℕ
+taken_count None = 0
+taken_count (Some model) = length model.came
+
 -- ---- accesses
 
 abbrev pub open_status : Option ModelState → ℕ

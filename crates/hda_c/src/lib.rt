@@ -3,7 +3,7 @@
 //! bytes, and C passes none.
 #![tactic(auto)]
 
-ghost use Rattle.std.specs.Prelude.{◌≡◌, ◌≢◌, ◌<◌, ◌==◌, None, IfSome, IfOk, IfErr};
+ghost use Rattle.std.specs.Prelude.{◌≡◌, ◌≢◌, ◌<◌, ◌==◌, None, IfSome, IfOk, IfErr, OnErr};
 ghost use Rattle.std.specs.Prelude.{is_some, length, map, drop, get_or};
 ghost use Rattle.heard_lists.specs.declared.pin_list.PinHeard.{PinHeard};
 ghost use Rattle.hda_model.specs.Refusals as refusals;
@@ -19,10 +19,10 @@ mod slot;
 mod words;
 
 pub use handle::Handle;
-use hda_model::{DeviceModel, FileFault, HeardItem, OpenFault, PinName};
+use hda_model::{DeviceModel, FileFault, HeardItem, OpenFault, PinName, copy_marks};
 use numbers::{CLOSED, DONE, NO_MEMORY, NO_SUCH, REFUSED, status_of, step_of, width_of};
 pub use slot::Slot;
-use std::alloc::Global;
+use std::alloc::{AllocError, Global};
 use words::tell;
 
 /// Opens the device that the text of a codec file describes, in the place of any that is there. DONE, REFUSED, or
@@ -179,6 +179,80 @@ pub extern "C" fn hda_model_step(
     };
     slot.put(device);
     status
+}
+
+/// Gives all input pins this sound. NO_MEMORY, or CLOSED; then nothing changes.
+#[unsafe(no_mangle)]
+pub extern "C" fn hda_model_give(alloc: Global, slot: &mut Slot, sound: &[u8]) -> u8
+    ensures status { calls.IsGiveStatus sound.now slot.old.held.device result }
+    ensures given { result ≡ DONE
+        → calls.AreBoth (models.IsGiven sound.now) slot.old.held.device slot.new.held.device }
+    ensures kept { result ≢ DONE → slot.new.held.device ≡ slot.old.held.device }
+{
+    let Some(mut device) = slot.take(alloc) else {
+        return CLOSED;
+    };
+    let status = match copy_of(alloc, sound) {
+        Ok(copy) => {
+            device.give(copy);
+            DONE
+        }
+        Err(_) => NO_MEMORY,
+    };
+    slot.put(device);
+    status
+}
+
+/// The same bytes.
+///
+/// # Errors
+/// Want of memory, where there are some.
+fn copy_of(alloc: Global, sound: &[u8]) -> Result<Vec<u8>, AllocError>
+    ensures copy { IfOk result (λ copy. copy.items ≡ sound.now) }
+    ensures some { OnErr result (0 < length sound.now) }
+{
+    let mut copy = Vec::new(alloc);
+    copy.extend_from_slice(sound)?;
+    Ok(copy)
+}
+
+/// How many blocks came to the input stream since its RUN rose. CLOSED, and 0, where there is no device model.
+#[unsafe(no_mangle)]
+pub extern "C" fn hda_model_taken_count(alloc: Global, slot: &mut Slot, count: &mut u64) -> u8
+    ensures status { result ≡ calls.open_status slot.old.held.device }
+    ensures count { count.new ≡ calls.taken_count slot.old.held.device }
+    ensures kept { slot.new.held.device ≡ slot.old.held.device }
+{
+    *count = 0;
+    let Some(device) = slot.take(alloc) else {
+        return CLOSED;
+    };
+    *count = device.taken().len() as u64;
+    slot.put(device);
+    DONE
+}
+
+/// Copies the marks of the blocks that came since RUN rose, from a number on, counted from 0, as many as fit: 1 where
+/// the block was taken, 0 where it was dropped. CLOSED where there is no device model; then nothing is copied.
+#[unsafe(no_mangle)]
+pub extern "C" fn hda_model_copy_taken(
+    alloc: Global,
+    slot: &mut Slot,
+    from: u64,
+    into: &mut [u8],
+) -> u8
+    ensures status { result ≡ calls.open_status slot.old.held.device }
+    ensures marks { IfSome slot.old.held.device
+        (λ d. into.new ≡ copies.copied (map copies.mark_of (drop from d.came)) into.old) }
+    ensures none { slot.old.held.device ≡ None → into.new ≡ into.old }
+    ensures kept { slot.new.held.device ≡ slot.old.held.device }
+{
+    let Some(device) = slot.take(alloc) else {
+        return CLOSED;
+    };
+    copy_marks(device.taken(), from, into);
+    slot.put(device);
+    DONE
 }
 
 /// What the candidate pin of the codec with this address heard that was not forgotten: `count` is how many items, and

@@ -7,17 +7,28 @@ use Rattle.heard_frames.specs.declared.heard.Heard.TheVariants.{Quiet}
 use Rattle.hda_model.specs.declared.heard_items.HeardItem.{HeardItem}
 use Rattle.hda_model.specs.Copies.{copied, item_of, most_copied}
 
+-- the parts of a list from a number on, each as something else
+abbrev pub parts_from : {A B : Type 0} → (A → B) → ℕ → List A → List B
+parts_from part from list = map part (drop from list)
+
+pub length-parts_from : {A B : Type 0} (part : A → B) (from : ℕ) (list : List A) → length (parts_from part from list) ≡ length list - from
+length-parts_from part from list = length-map (drop from list) part ∙ length-drop from list
+
+pub parts_from-at : {A B : Type 0} (part : A → B) (from n : ℕ) (list : List A) (e : A) (d : B) → n < length list - from
+    → get_or (parts_from part from list) n d ≡ part (get_or list (from + n) e)
+parts_from-at part from n list e d within =
+    get_or-map part (drop from list) n e d (subst (λ (size : ℕ). n < size) (sym (length-drop from list)) within)
+    ∙ ap part (get_or-drop from list n e)
+
 -- the items of a list from a number on
 abbrev pub items_from : ℕ → List Heard → List HeardItem
-items_from from list = map item_of (drop from list)
+items_from from list = parts_from item_of from list
 
 pub length-items_from : (from : ℕ) (list : List Heard) → length (items_from from list) ≡ length list - from
-length-items_from from list = length-map (drop from list) item_of ∙ length-drop from list
+length-items_from from list = length-parts_from item_of from list
 
 pub items_from-at : (from n : ℕ) (list : List Heard) (d : HeardItem) → n < length list - from → get_or (items_from from list) n d ≡ item_of (get_or list (from + n) Quiet)
-items_from-at from n list d within =
-    get_or-map item_of (drop from list) n Quiet d (subst (λ (size : ℕ). n < size) (sym (length-drop from list)) within)
-    ∙ ap item_of (get_or-drop from list n Quiet)
+items_from-at from n list d within = parts_from-at item_of from n list Quiet d within
 
 -- one more of the first ones
 pasted_more : {A : Type 0} (n : ℕ) (items old : List A) (d : A) → n < length items → n < length old

@@ -19,6 +19,10 @@ item_of Hole = record { kind = 1; left = pos 0; right = pos 0 }
 item_of Altered = record { kind = 2; left = pos 0; right = pos 0 }
 item_of (Sound left right) = record { kind = 3; left = left; right = right }
 
+-- a mark as a number: 1 where the block was taken, 0 where it was dropped
+abbrev pub mark_of : Bool → ℕ
+mark_of taken = if taken then 1 else 0
+
 -- ---- one pin
 
 abbrev pub is_named : ℕ → ℕ → PinHeard → Bool
@@ -36,6 +40,6 @@ list_of codec nid pins = items_in (find (is_named codec nid) pins)
 abbrev pub count_of : ℕ → ℕ → List PinHeard → Option ℕ
 count_of codec nid pins = option_map (λ pin. length pin.list) (find (is_named codec nid) pins)
 
--- what private functions promise one another: how many of so many items, from a number on, fit into so much room
+-- what private functions promise one another: how many of so many items or marks, from a number on, fit into so much room
 abbrev pub most_copied : (count from room : ℕ) → ℕ
 most_copied count from room = if nat_lt from count then min (count - from) room else 0

@@ -1,5 +1,5 @@
 -- A device model as contracts see it, the worlds that it stands for, and the moves of its calls. This project's own.
-use Rattle.std.specs.Prelude.{◌≡◌, ◌≤◌, ℕ, List, [], All, Ok, length, map, drop}
+use Rattle.std.specs.Prelude.{◌≡◌, ◌≤◌, ℕ, Bool, List, [], All, Ok, length, map, drop}
 use Rattle.std.specs.List.{AllZip}
 use Rattle.codec_graph.specs.declared.raw.RawCodec.{RawCodec}
 use Rattle.codec_graph.specs.Order.{IsOrder}
@@ -8,7 +8,7 @@ use Rattle.hda_registers.specs.declared.shapes.Width.{Width}
 use Rattle.hda_files.specs.declared.machine.Machine.{Machine}
 use Rattle.hda_files.specs.Machines.{Reads}
 use Rattle.heard_frames.specs.HeardLists.{heard}
-use Rattle.hda_world.specs.Worlds.{World}
+use Rattle.hda_world.specs.Worlds.{World, given_sound}
 use Rattle.hda_world.specs.Events.{after_write}
 use Rattle.hda_world.specs.Steps.{after_step}
 use Rattle.heard_lists.specs.declared.pin_list.PinHeard.{PinHeard}
@@ -18,10 +18,12 @@ use Rattle.hda_controller.specs.Openings.{opening_world}
 use Rattle.hda_model.specs.declared.places.PinName.{PinName}
 use Rattle.hda_model.specs.declared.faults.TheConstants.{MOST_TEXT_BYTES}
 
--- the controller, and what each candidate pin heard that was not forgotten, codec by codec
+-- the controller, what each candidate pin heard that was not forgotten, codec by codec, and of each block that came to
+-- the input stream since its RUN rose whether it was taken
 pub record ModelState : Type 0 where
   pub controller : ControllerState
   pub pins : List PinHeard
+  pub came : List Bool
 
 -- each pin has what it heard of the link frames that the world carried, but for the first so many
 abbrev pub AreHeardSince : ℕ → World → List PinHeard → Type 0
@@ -32,6 +34,7 @@ pub record StandsSince (memory : List ℕ) (model : ModelState) (forgotten : ℕ
   pub stands : StandsFor memory model.controller world
   pub within : forgotten ≤ length world.carried
   pub heard : AreHeardSince forgotten world model.pins
+  pub came : world.came ≡ model.came
 
 -- with this memory the model is some world
 abbrev pub SomeWorld : List ℕ → ModelState → Type 0
@@ -73,6 +76,14 @@ pub record IsDescribed (text : List ℕ) (model : ModelState) : Type 0 where
   pub reads : Reads text (Ok machine)
   pub opened : IsOpened machine model
 
+-- the sound is that of the world's input pins from now on, and nothing else changes
+pub record IsGiven (sound : List ℕ) (before after : ModelState) : Type 0 where
+  pub stands : (memory : List ℕ) (forgotten : ℕ) (world : World) → StandsSince memory before forgotten world
+      → StandsSince memory after forgotten (given_sound sound world)
+  pub given : after.controller.device.input.given ≡ sound
+  pub pins : after.pins ≡ before.pins
+  pub came : after.came ≡ before.came
+
 -- a write of a register leads where the world goes, and what was heard stays
 pub record IsWritten (at : ℕ) (width : Width) (value : ℕ) (before after : ModelState) : Type 0 where
   pub stands : (memory : List ℕ) (forgotten : ℕ) (world : World) → StandsSince memory before forgotten world
@@ -91,3 +102,4 @@ pub record IsForgotten (before after : ModelState) : Type 0 where
       → StandsSince memory after (length world.carried) world
   pub controller : after.controller ≡ before.controller
   pub pins : after.pins ≡ map emptied before.pins
+  pub came : after.came ≡ before.came

@@ -48,8 +48,8 @@ pub(crate) fn item_of(heard: Heard) -> HeardItem
     }
 }
 
-/// How many of so many items, from a place on, fit into so much room.
-fn most_copied(count: usize, from: u64, room: usize) -> usize
+/// How many of so many items or marks, from a place on, fit into so much room.
+pub(crate) fn most_copied(count: usize, from: u64, room: usize) -> usize
     ensures { result ≡ most_copied count from room }
 {
     if from < count as u64 {

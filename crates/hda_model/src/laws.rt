@@ -10,7 +10,8 @@ pub fn lent_memory_may_change()
         → StandsSince old model forgotten world → StandsSince new model forgotten (with_memory new world) }
 {}
 
-/// Whatever world a model stands for, its registers, its codecs and its memory are those of that world.
+/// Whatever world a model stands for, its registers, its codecs, its memory, the sound that its input pins are given and
+/// what came to its input stream are those of that world.
 pub fn stands_for_one()
     ensures registers { (memory : List ℕ) (model : ModelState) (forgotten : ℕ) (world : World)
         → StandsSince memory model forgotten world → world.registers ≡ model.controller.device.registers }
@@ -18,4 +19,8 @@ pub fn stands_for_one()
         → StandsSince memory model forgotten world → world.codecs ≡ model.controller.device.codecs }
     ensures memory { (memory : List ℕ) (model : ModelState) (forgotten : ℕ) (world : World)
         → StandsSince memory model forgotten world → world.memory ≡ memory }
+    ensures given { (memory : List ℕ) (model : ModelState) (forgotten : ℕ) (world : World)
+        → StandsSince memory model forgotten world → world.given ≡ model.controller.device.input.given }
+    ensures came { (memory : List ℕ) (model : ModelState) (forgotten : ℕ) (world : World)
+        → StandsSince memory model forgotten world → world.came ≡ model.came }
 {}

@@ -24,15 +24,15 @@ use std::alloc::{AllocError, Global};
 use std::marker::Model;
 use world_steps::Step;
 
-/// A High Definition Audio controller (specification 1.0a) with its codecs, and what their candidate pins heard and was
-/// not forgotten. The memory that the controller reaches is lent at each call and begins at bus address 0. Contracts
-/// see a `ModelState`, which stands for a world, and of each call the move of the world that it makes. This project's
-/// own.
+/// A High Definition Audio controller (specification 1.0a) with its codecs, what their candidate pins heard and was not
+/// forgotten, and which blocks the input stream took. The memory that the controller reaches is lent at each call and
+/// begins at bus address 0. Contracts see a `ModelState`, which stands for a world, and of each call the move of the
+/// world that it makes. This project's own.
 #[derive(Drop)]
 pub struct DeviceModel {
     controller: Controller,
     heard: HeardLists,
-    /// Of each block that came to the input stream in the last step whether it was taken. No call tells it.
+    /// Of each block that came to the input stream since its RUN rose whether it was taken.
     came: Vec<bool>,
 }
 
@@ -44,9 +44,9 @@ impl Model for DeviceModel {
 
     ghost Value = { ModelState };
 
-    ghost view = { λ m. record { controller = m.controller; pins = map handed_out m.heard } };
+    ghost view = { λ m. record { controller = m.controller; pins = map handed_out m.heard; came = m.came.items } };
 
-    ghost invariant = { λ m. IsModel m.controller m.heard };
+    ghost invariant = { λ m. IsModel m.controller m.heard m.came.items };
 }
 
 impl DeviceModel {
@@ -102,16 +102,33 @@ impl DeviceModel {
         self.controller.line()
     }
 
+    /// Gives all input pins this sound, whose blocks come to the input stream while it runs, the block with number i
+    /// since RUN rose as the block of bytes with number i, and silence behind the last whole one. To be called before
+    /// the first step, where all of it is to come.
+    pub fn give(&mut self, sound: Vec<u8>)
+        ensures { models.IsGiven sound.items self.old self.new }
+    {
+        self.controller.give(sound);
+    }
+
+    /// Of each block that came to the input stream since its RUN rose, oldest first, whether it was taken.
+    pub fn taken(&self) -> &[bool]
+        ensures { result.now ≡ self.now.came }
+    {
+        self.came.as_slice()
+    }
+
     /// Writes a register (HDA 1.0a, 3.3), as the world does at such a write. What was heard stays.
     pub fn write(&mut self, at: u16, width: Width, value: u32)
         ensures { models.IsWritten at width value self.old self.new }
     {
         self.controller.write(at, width, value);
+        self.controller.keep_marks(&mut self.came);
     }
 
     /// Makes a step of the device, as the world does at this step. What it reads and writes of memory is the memory's
-    /// that is lent. It takes memory of its own only for what pins may hear: four items at each of them for a link
-    /// frame.
+    /// that is lent. It takes memory of its own only for what pins may hear, four items at each of them for a link
+    /// frame, and for four marks a link frame of blocks that may come.
     ///
     /// # Errors
     /// Where there is no such codec or stream, or memory was wanting for a step that lets link frames pass. Nothing
@@ -143,7 +160,6 @@ impl DeviceModel {
         ensures memory { OnErr result (memory.new ≡ memory.old) }
         ensures some { OnErr result (0 < most_items step.now) }
     {
-        self.came.clear();
         make_room(&mut self.heard, &mut self.came, most_items(step))?;
         self.controller
             .step(memory, step, &mut self.heard, &mut self.came);

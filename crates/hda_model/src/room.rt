@@ -8,7 +8,7 @@ use std::alloc::AllocError;
 /// Makes room for so many more items in each list, and for as many marks.
 ///
 /// # Errors
-/// Want of memory, where it is room for some. The lists stay as they were.
+/// Want of memory, where it is room for some. Lists and marks stay as they were.
 pub(crate) fn make_room(
     lists: &mut HeardLists,
     marks: &mut Vec<bool>,
@@ -17,6 +17,7 @@ pub(crate) fn make_room(
     ensures room { OnOk result (HasRoom items lists.new) }
     ensures space { OnOk result (vec_len marks.new + items ≤ vec_capacity marks.new) }
     ensures lists { map handed_out lists.new ≡ map handed_out lists.old }
+    ensures marks { marks.new.items ≡ marks.old.items }
     ensures some { OnErr result (0 < items) }
 {
     if items == 0 {

@@ -8,3 +8,9 @@ returns-clause-codecs c memory model forgotten world is = is.stands.codecs_are
 
 pub returns-clause-memory : goal.returns-clause-memory
 returns-clause-memory c memory model forgotten world is = is.stands.memory_is
+
+pub returns-clause-given : goal.returns-clause-given
+returns-clause-given c memory model forgotten world is = is.stands.captured.given_is
+
+pub returns-clause-came : goal.returns-clause-came
+returns-clause-came c memory model forgotten world is = is.came

@@ -9,10 +9,10 @@ use Rattle.hda_model.proofs.Standing.{forgot, some_forgotten, forgotten_pins}
 use Rattle.hda_model.proofs.model.DeviceModel.forget.Goals.{After-clear}
 use Rattle.hda_model.proofs.model.DeviceModel.forget.Goals as goal
 
-is : (c : After-clear) → IsForgotten (seen c.self.inside.controller c.self.inside.heard) (seen c.self.inside.controller c.clear.new.self)
+is : (c : After-clear) → IsForgotten (seen c.self.inside.controller c.self.inside.heard c.self.inside.came.items) (seen c.self.inside.controller c.clear.new.self c.self.inside.came.items)
 is c =
-    forgot (seen c.self.inside.controller c.self.inside.heard) (seen c.self.inside.controller c.clear.new.self) refl
-    (ap (map handed_out) c.clear.ensures ∙ forgotten_pins c.self.inside.heard)
+    forgot (seen c.self.inside.controller c.self.inside.heard c.self.inside.came.items) (seen c.self.inside.controller c.clear.new.self c.self.inside.came.items) refl
+    (ap (map handed_out) c.clear.ensures ∙ forgotten_pins c.self.inside.heard) refl
 
 pub invariant_of-self : goal.invariant_of-self
 invariant_of-self c =
@@ -23,8 +23,8 @@ invariant_of-self c =
           subst (AreHeardAs c.self.inside.controller.kind codecs) (sym c.clear.ensures)
           (All-map (λ (l : Listing). is_candidate_of_kind c.self.inside.controller.kind codecs l.codec l.pin ≡ true) forgotten c.self.inside.heard c.self.invariant.known);
       stands =
-          some_forgotten (seen c.self.inside.controller c.self.inside.heard) (seen c.self.inside.controller c.clear.new.self) (is c) c.self.invariant.stands;
+          some_forgotten (seen c.self.inside.controller c.self.inside.heard c.self.inside.came.items) (seen c.self.inside.controller c.clear.new.self c.self.inside.came.items) (is c) c.self.invariant.stands;
     }
 
 pub returns : goal.returns
-returns c = subst (λ (before : ModelState). IsForgotten before (seen c.self.inside.controller c.clear.new.self)) c.self.view_is (is c)
+returns c = subst (λ (before : ModelState). IsForgotten before (seen c.self.inside.controller c.clear.new.self c.self.inside.came.items)) c.self.view_is (is c)

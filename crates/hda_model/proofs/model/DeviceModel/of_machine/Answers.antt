@@ -7,15 +7,16 @@ invariant_of-result c =
     let machine = c.args.machine.now in
     let controller = c.in_ok-controller.controller in
     let lists = c.in_ok-heard.heard in
+    let marks = c.new-3.result.items in
     record {
       kind = c.in_ok-controller.ensures.kind;
       known = c.in_ok-controller.ensures.lists lists c.in_ok-heard.ensures.pins;
       stands =
-          some_opened machine (seen controller lists)
-          (opened machine controller lists c.in_ok-controller.ensures.stands c.in_ok-heard.ensures.pins c.in_ok-heard.ensures.empty);
+          some_opened machine (seen controller lists marks)
+          (opened machine controller lists marks c.in_ok-controller.ensures.stands c.in_ok-heard.ensures.pins c.in_ok-heard.ensures.empty c.new-3.ensures.items);
     }
 
 pub returns : goal.returns
 returns c =
-    opened c.args.machine.now c.in_ok-controller.controller c.in_ok-heard.heard c.in_ok-controller.ensures.stands c.in_ok-heard.ensures.pins
-    c.in_ok-heard.ensures.empty
+    opened c.args.machine.now c.in_ok-controller.controller c.in_ok-heard.heard c.new-3.result.items
+    c.in_ok-controller.ensures.stands c.in_ok-heard.ensures.pins c.in_ok-heard.ensures.empty c.new-3.ensures.items
