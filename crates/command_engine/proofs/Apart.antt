@@ -4,7 +4,7 @@ use Rattle.std.proofs.lemmas.Bool.{false≢true, cases_lt}
 use Rattle.codec_graph.specs.CodecStates.{CodecState}
 use Rattle.hda_registers.specs.declared.shapes.Width.{Width}
 use Rattle.hda_registers.specs.declared.shapes.Width.TheVariants.{One}
-use Rattle.hda_registers.specs.Fields.{Descriptor, Fields, is_running, list_address}
+use Rattle.hda_registers.specs.Fields.{Fields, is_running, list_address}
 use Rattle.hda_registers.specs.Access.{written}
 use Rattle.world_rings.specs.declared.response.Response.{Response}
 use Rattle.world_rings.specs.Memory.{IsOutside}

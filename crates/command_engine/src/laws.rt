@@ -13,7 +13,8 @@ ghost use Rattle.command_engine.specs.declared.answers.Outstanding.{Outstanding}
 ghost use Rattle.command_engine.specs.Sizes.{half_of};
 ghost use Rattle.command_engine.specs.Fetchings.{HasBlocks, AscendByAddress, AreBeside, Stands};
 ghost use Rattle.command_engine.specs.Belonging.{IsAnswered, IsSettled, TookSettled};
-ghost use Rattle.command_engine.specs.Quiet.{IsQuiet, CanStart, LeaveRegisters};
+ghost use Rattle.command_engine.specs.Apart.{LeavesInput};
+ghost use Rattle.command_engine.specs.Quiet.{IsQuiet, CanStart, LeaveRegisters, LeavesRegisters};
 
 /// How an engine stands to the world is kept by every step of the device: at most one answer is on its way to it, and
 /// that is the answer to its outstanding command by the codec as it was when it took it.

@@ -36,12 +36,13 @@ pub told_whole : (rig : Rig) → IfSome (told_by rig) (λ telling. length (world
 told_whole rig = ∥∥₁_elim rig.recording.stands (Coded-set coded_ℕ _ _)
     (λ here. ap length here.stands.memory_is ∙ rig.recording.whole)
 
--- what no access changes: the machine, for which pins there are lists, whether a run is open, and with which entry and
--- which groups the last one began
+-- what no access changes: the machine, for which pins there are lists, the sound that input pins are given, whether a run
+-- is open, and with which entry and which groups the last one began
 abbrev pub setting_of : Rig → Setting
 setting_of rig = record {
   machine = rig.recording.machine;
   kind = rig.recording.kind;
+  given = sound_of rig;
   in_run = rig.in_run;
   begun = rig.begun;
   groups = rig.groups;

@@ -3,7 +3,7 @@ ghost use Rattle.std.specs.Prelude.{◌≡◌, ◌≤◌, ◌+◌, ℕ, [], ◌�
 ghost use Rattle.hda_world.specs.Events.{Stepped};
 ghost use Rattle.hda_world.specs.Tellings.{Went};
 ghost use Rattle.rig.specs.Recordings.{HasRoomFor, items_for};
-ghost use Rattle.rig.specs.Rigs.{told_of};
+ghost use Rattle.rig.specs.Rigs.{told_of, sound_given};
 ghost use Rattle.rig.specs.Rooms.{steps_before, step_count, item_count};
 ghost use Rattle.rig.specs.Stretches.{all_steps_in};
 
@@ -35,6 +35,7 @@ pub(crate) fn pass(recording: &mut Recording, groups: &[Group], number: usize)
     ensures told { Went (told_of recording.old) (told_of recording.new) (map Stepped (steps_before number groups.now)) }
     ensures machine { recording.new.machine ≡ recording.old.machine }
     ensures kind { recording.new.kind ≡ recording.old.kind }
+    ensures sound { sound_given recording.new ≡ sound_given recording.old }
     ensures room { (entries bytes items : ℕ)
         → HasRoomFor (length (steps_before number groups.now) + entries) bytes
         (items_for (steps_before number groups.now) + items) recording.old.journal recording.old.heard
@@ -53,6 +54,7 @@ pub(crate) fn pass_all(recording: &mut Recording, groups: &[Group])
     ensures told { Went (told_of recording.old) (told_of recording.new) (all_steps_in groups.now) }
     ensures machine { recording.new.machine ≡ recording.old.machine }
     ensures kind { recording.new.kind ≡ recording.old.kind }
+    ensures sound { sound_given recording.new ≡ sound_given recording.old }
     ensures room { (entries bytes items : ℕ)
         → HasRoomFor (step_count groups.now + entries) bytes (item_count groups.now + items) recording.old.journal
         recording.old.heard recording.old.came

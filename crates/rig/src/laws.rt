@@ -10,8 +10,9 @@ ghost use Rattle.rig.specs.Rigs.{IsReplayed};
 ghost use Rattle.rig.specs.Follows.{FollowItems, AreAccesses};
 ghost use Rattle.rig.specs.Stretches.{accesses_of, stretch, IsStretchFrom};
 
-/// Whatever calls were made on a rig, its journal replays from the start of its machine, each access with the answer of
-/// its moment, to the world for which its controller, its memory and its heard lists stand.
+/// Whatever calls were made on a rig, its journal replays from the start of its machine with the sound that its input
+/// pins are given, each access with the answer of its moment, to the world for which its controller, its memory, its
+/// heard lists and its marks of the blocks that came to the input stream stand.
 pub fn rigs_replay()
     ensures { (rig : Rig) → IsReplayed rig }
 {}

@@ -94,6 +94,7 @@ impl Recording {
         ensures told { told_of self.new ≡ told_of self.old }
         ensures machine { self.new.machine ≡ self.old.machine }
         ensures kind { self.new.kind ≡ self.old.kind }
+        ensures sound { sound_given self.new ≡ sound_given self.old }
     {
         self.journal.reserve(entries, bytes)?;
         self.came.reserve(items as usize)?;
@@ -106,6 +107,7 @@ impl Recording {
         ensures told { told_of self.new ≡ telling_given REGION_BYTES self.old.machine sound.items [] }
         ensures machine { self.new.machine ≡ self.old.machine }
         ensures kind { self.new.kind ≡ self.old.kind }
+        ensures sound { sound_given self.new ≡ sound.items }
         ensures journal { self.new.journal ≡ self.old.journal }
         ensures heard { self.new.heard ≡ self.old.heard }
         ensures came { self.new.came ≡ self.old.came }
@@ -126,6 +128,7 @@ impl Recording {
         ensures told { Went (told_of self.old) (told_of self.new) (Stepped step.now ∷ []) }
         ensures machine { self.new.machine ≡ self.old.machine }
         ensures kind { self.new.kind ≡ self.old.kind }
+        ensures sound { sound_given self.new ≡ sound_given self.old }
         ensures room { (entries bytes items : ℕ) → HasRoomFor (1 + entries) bytes (most_items step.now + items)
             self.old.journal self.old.heard self.old.came
             → HasRoomFor entries bytes items self.new.journal self.new.heard self.new.came }
@@ -145,6 +148,7 @@ impl Recording {
         ensures told { Went (told_of self.old) (told_of self.new) (map Stepped steps.now) }
         ensures machine { self.new.machine ≡ self.old.machine }
         ensures kind { self.new.kind ≡ self.old.kind }
+        ensures sound { sound_given self.new ≡ sound_given self.old }
         ensures room { (entries bytes items : ℕ)
             → HasRoomFor (length steps.now + entries) bytes (items_for steps.now + items) self.old.journal
             self.old.heard self.old.came
@@ -161,6 +165,7 @@ impl Recording {
         ensures told { Went (told_of self.old) (told_of self.new) (Begin ∷ []) }
         ensures machine { self.new.machine ≡ self.old.machine }
         ensures kind { self.new.kind ≡ self.old.kind }
+        ensures sound { sound_given self.new ≡ sound_given self.old }
         ensures room { (entries bytes items : ℕ) → HasRoomFor (1 + entries) bytes items self.old.journal self.old.heard
             self.old.came
             → HasRoomFor entries bytes items self.new.journal self.new.heard self.new.came }
@@ -174,6 +179,7 @@ impl Recording {
         ensures told { Went (told_of self.old) (told_of self.new) (End ∷ []) }
         ensures machine { self.new.machine ≡ self.old.machine }
         ensures kind { self.new.kind ≡ self.old.kind }
+        ensures sound { sound_given self.new ≡ sound_given self.old }
         ensures room { (entries bytes items : ℕ) → HasRoomFor (1 + entries) bytes items self.old.journal self.old.heard
             self.old.came
             → HasRoomFor entries bytes items self.new.journal self.new.heard self.new.came }

@@ -114,7 +114,7 @@ impl Rig {
         requires { (telling_of self.old).journal ≡ [] }
         ensures told { told_by self.new
             ≡ Some (telling_given REGION_BYTES (setting_of self.old).machine sound.items []) }
-        ensures setting { setting_of self.new ≡ setting_of self.old }
+        ensures setting { setting_of self.new ≡ record (setting_of self.old) { given = sound.items } }
     {
         self.recording.give(sound);
     }
@@ -149,6 +149,7 @@ impl Rig {
         ensures setting { OnOk result (setting_of self.new ≡ record {
           machine = (setting_of self.old).machine;
           kind = (setting_of self.old).kind;
+          given = (setting_of self.old).given;
           in_run = true;
           begun = length (telling_of self.old).journal;
           groups = groups.now;

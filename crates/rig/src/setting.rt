@@ -12,6 +12,8 @@ pub struct Setting {
     pub machine: Machine,
     /// For which of its pins there are lists.
     pub kind: PinKind,
+    /// The sound that its input pins are given.
+    pub given: Items<u8>,
     /// Whether a run of the driver is open.
     pub in_run: bool,
     /// The number of the journal's entry with which the last run began, counted from 0.

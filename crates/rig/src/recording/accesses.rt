@@ -5,7 +5,7 @@ ghost use Rattle.hda_world.specs.Events.{Read, Write, DmaRead, DmaWrite};
 ghost use Rattle.hda_world.specs.Tellings.{Went};
 ghost use Rattle.world_rings.specs.Memory.{stored};
 ghost use Rattle.rig.specs.Recordings.{HasRoomFor};
-ghost use Rattle.rig.specs.Rigs.{told_of};
+ghost use Rattle.rig.specs.Rigs.{told_of, sound_given};
 
 use crate::recording::Recording;
 use hda_registers::Width;
@@ -17,6 +17,7 @@ impl Recording {
         ensures told { Went (told_of self.old) (told_of self.new) (Read at width result ∷ []) }
         ensures machine { self.new.machine ≡ self.old.machine }
         ensures kind { self.new.kind ≡ self.old.kind }
+        ensures sound { sound_given self.new ≡ sound_given self.old }
         ensures room { (entries bytes items : ℕ) → HasRoomFor (1 + entries) bytes items self.old.journal self.old.heard
             self.old.came
             → HasRoomFor entries bytes items self.new.journal self.new.heard self.new.came }
@@ -32,6 +33,7 @@ impl Recording {
         ensures told { Went (told_of self.old) (told_of self.new) (Write at width value ∷ []) }
         ensures machine { self.new.machine ≡ self.old.machine }
         ensures kind { self.new.kind ≡ self.old.kind }
+        ensures sound { sound_given self.new ≡ sound_given self.old }
         ensures room { (entries bytes items : ℕ) → HasRoomFor (1 + entries) bytes items self.old.journal self.old.heard
             self.old.came
             → HasRoomFor entries bytes items self.new.journal self.new.heard self.new.came }
@@ -48,6 +50,7 @@ impl Recording {
         ensures told { Went (told_of self.old) (told_of self.new) (DmaRead address into.new ∷ []) }
         ensures machine { self.new.machine ≡ self.old.machine }
         ensures kind { self.new.kind ≡ self.old.kind }
+        ensures sound { sound_given self.new ≡ sound_given self.old }
         ensures room { (entries bytes items : ℕ) → HasRoomFor (1 + entries) (length into.old + bytes) items
             self.old.journal self.old.heard self.old.came
             → HasRoomFor entries bytes items self.new.journal self.new.heard self.new.came }
@@ -63,6 +66,7 @@ impl Recording {
         ensures told { Went (told_of self.old) (told_of self.new) (DmaWrite address piece.now ∷ []) }
         ensures machine { self.new.machine ≡ self.old.machine }
         ensures kind { self.new.kind ≡ self.old.kind }
+        ensures sound { sound_given self.new ≡ sound_given self.old }
         ensures room { (entries bytes items : ℕ) → HasRoomFor (1 + entries) (length piece.now + bytes) items
             self.old.journal self.old.heard self.old.came
             → HasRoomFor entries bytes items self.new.journal self.new.heard self.new.came }

@@ -14,7 +14,7 @@ use Rattle.rig.proofs.Turns.{group_told, all_taken}
 use Rattle.rig.proofs.groups.pass_all.Goals as goal
 
 pub loop-group-init : goal.loop-group-init
-loop-group-init c = record { told = went_none _; machine = refl; kind = refl; room = λ entries bytes items. start_room entries bytes items _ _ _ }
+loop-group-init c = record { told = went_none _; machine = refl; kind = refl; sound = refl; room = λ entries bytes items. start_room entries bytes items _ _ _ }
 
 pub make_steps-requires : goal.make_steps-requires
 make_steps-requires c =
@@ -36,6 +36,7 @@ loop-group-preserved c =
           (subst (λ (steps : List Step). Went (told_of c.loop-group.recording) (told_of c.make_steps.new.self) (map Stepped steps)) at c.make_steps.ensures.told);
       machine = c.make_steps.ensures.machine ∙ c.loop-group.invariant.machine;
       kind = c.make_steps.ensures.kind ∙ c.loop-group.invariant.kind;
+      sound = c.make_steps.ensures.sound ∙ c.loop-group.invariant.sound;
       room = turn_room (step_count (take i c.args.groups.now)) (length (get_or c.args.groups.now i c.group-item.result).steps) (step_count (take (i + 1) c.args.groups.now))
           (item_count (take i c.args.groups.now)) (items_for (get_or c.args.groups.now i c.group-item.result).steps) (item_count (take (i + 1) c.args.groups.now)) _ _ _ _ _ _ _ _ _
           c.loop-group.invariant.room
@@ -54,6 +55,7 @@ returns c =
       told = subst (λ (groups : List Group). Went (told_of c.args.recording.now) (told_of c.loop-group.recording) (all_steps_in groups)) all c.loop-group.invariant.told;
       machine = c.loop-group.invariant.machine;
       kind = c.loop-group.invariant.kind;
+      sound = c.loop-group.invariant.sound;
       room = subst (λ (groups : List Group). (entries bytes items : ℕ) → HasRoomFor (step_count groups + entries) bytes (item_count groups + items) c.args.recording.now.journal c.args.recording.now.heard c.args.recording.now.came
           → HasRoomFor entries bytes items c.loop-group.recording.journal c.loop-group.recording.heard c.loop-group.recording.came) all c.loop-group.invariant.room;
     }
