@@ -12,5 +12,7 @@ pub use Rattle.hda_capture.proofs.RecordCourses.{still_on}
 pub use Rattle.hda_capture.proofs.RecordCourses.{whole_up}
 -- the runs and the course, with whole blocks where the link stood at such
 pub use Rattle.hda_capture.proofs.RecordCourses.{IsRecordTally, tally_keeps}
+-- a ring that is kept twice is kept, and a pool that has its blocks goes on to have them
+pub use Rattle.hda_capture.proofs.KeptRecorders.{recorder_keeps_on, recorder_owns_on}
 -- one read more
 pub use Rattle.hda_capture.proofs.ReadSteps.{pieces_read_more}

@@ -1,9 +1,10 @@
-//! Cases of the writer of the ring, from the files in `data`, each with what comes of it: plays over a platform that
-//! answers from a list, so that its clocks and positions may be right or lie. A case is a line, whose first word says
-//! what is called.
+//! Cases of the writer of the ring and of the recorder, from the files in `data`, each with what comes of it: plays and
+//! recordings over a platform that answers from a list, so that its clocks and positions may be right or lie. A case is
+//! a line, whose first word says what is called.
 #![tactic(auto)]
 
 mod plays;
+mod records;
 mod rings;
 mod scripts;
 
@@ -13,7 +14,13 @@ use std::process::ExitCode;
 use test_cases::{Cases, run_cases, text_of};
 
 /// The files of cases.
-const FILES: [&str; 4] = ["rings.txt", "plays.txt", "taken_back.txt", "accesses.txt"];
+const FILES: [&str; 5] = [
+    "rings.txt",
+    "plays.txt",
+    "taken_back.txt",
+    "accesses.txt",
+    "records.txt",
+];
 
 /// The calls that cases name.
 #[derive(Clone, Copy)]
@@ -30,6 +37,7 @@ impl Cases for Calls {
             "play" => plays::tell(alloc, rest),
             "last" => plays::tell_last(alloc, rest),
             "accesses" => plays::tell_accesses(alloc, rest),
+            "record" => records::tell(alloc, rest),
             _ => format!(in alloc; "no call"),
         }
     }

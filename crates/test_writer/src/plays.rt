@@ -13,13 +13,13 @@ fn next_of(byte: u8) -> u8 {
     if byte == 255 { 1 } else { byte + 1 }
 }
 
-/// Puts the bytes of a ring: how many follow one another in the sound, and the first of them, or how many are 0.
-fn push_ring(text: &mut String, ring: &[u8]) -> Result<(), AllocError> {
-    text.push_str("\n  ring")?;
+/// Puts some bytes under a name: how many follow one another in the sound, and the first of them, or how many are 0.
+pub fn push_bytes(text: &mut String, name: &str, bytes: &[u8]) -> Result<(), AllocError> {
+    write!(text, "\n  {name}")?;
     let mut first = 0;
     let mut expected = 0;
     let mut count: u32 = 0;
-    for byte in ring {
+    for byte in bytes {
         let goes_on = count > 0 && *byte == expected;
         if !goes_on {
             push_stretch(text, first, count)?;
@@ -72,13 +72,13 @@ pub fn tell(alloc: Global, words: &[Vec<u8>]) -> Result<String, AllocError> {
     let mut text = String::new(alloc);
     push_course(&mut text, &played)?;
     for ring in played.rings.as_slice().chunks(SEEN_BYTES) {
-        push_ring(&mut text, ring)?;
+        push_bytes(&mut text, "ring", ring)?;
     }
     Ok(text)
 }
 
 /// Puts some accesses.
-fn push_accesses(text: &mut String, accesses: &[Access]) -> Result<(), AllocError> {
+pub fn push_accesses(text: &mut String, accesses: &[Access]) -> Result<(), AllocError> {
     for access in accesses {
         write!(text, "\n  {access:?}")?;
     }

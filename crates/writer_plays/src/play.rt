@@ -15,7 +15,7 @@ const HEAD: &[u8] =
     b"RIFF\0\0\0\0WAVEfmt \x10\0\0\0\x01\0\x02\0\x80\xbb\0\0\0\xee\x02\0\x04\0\x10\0data";
 
 /// The clock, and LPIB of the output stream.
-const CLOCK: u16 = 0x30;
+pub(crate) const CLOCK: u16 = 0x30;
 
 const POSITION: u16 = 0xA4;
 
@@ -26,7 +26,7 @@ const LIST_PLACE: usize = 0;
 const SEEN_BYTES: usize = 768;
 
 /// Where the ring stands then: an entry of the list has 16 bytes, and a granule 128.
-fn ring_place(geometry: &Geometry) -> usize
+pub(crate) fn ring_place(geometry: &Geometry) -> usize
     ensures { result ≤ 4096 }
 {
     (16 * usize::from(geometry.periods())).div_ceil(128) * 128

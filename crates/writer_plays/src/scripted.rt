@@ -1,6 +1,6 @@
 //! A platform that tells nothing: it answers reads of registers from a list, keeps memory, and can list what a driver
 //! does.
-ghost use Rattle.std.specs.Prelude.{◌≡◌, ◌≤◌, ◌+◌, None, true, length, IfOk};
+ghost use Rattle.std.specs.Prelude.{◌≡◌, ◌≤◌, ◌<◌, ◌+◌, None, true, length, IfOk};
 ghost use Rattle.hda_world.specs.declared.world.TheConstants.{REGION_BYTES};
 
 use dma_pool::{Lent, Window};
@@ -17,6 +17,8 @@ pub enum Access {
     Write(u16, Width, u32),
     /// So many bytes of memory were written from an address on.
     Memory(usize, usize),
+    /// So many were read.
+    MemoryRead(usize, usize),
 }
 
 /// What a register reads, once: its address and the value.
@@ -93,6 +95,13 @@ impl Scripted {
         Ok(())
     }
 
+    /// Puts a byte into memory, as a device does.
+    pub fn put(&mut self, at: usize, byte: u8)
+        requires { at < REGION_BYTES }
+    {
+        self.memory[at] = byte;
+    }
+
     /// Lists an access. After want of memory none is listed.
     fn note(&mut self, access: Access)
         ensures accesses { self.new.spare_accesses ≡ self.old.spare_accesses }
@@ -136,6 +145,7 @@ impl Platform for Scripted {
         self.spare_accesses -= 1;
         self.spare_bytes -= into.len();
         let first = from.address() as usize + at as usize;
+        self.note(Access::MemoryRead(first, into.len()));
         into.copy_from_slice(&self.memory[first..first + into.len()]);
     }
 
