@@ -88,9 +88,10 @@ int hda_rirb(hda *device);                  /* RIRB's engine writes what waits, 
 /* Stream 0 stores at most so many bytes of its FIFO in its buffers, or stream 1 fetches as many from its own into its
  * FIFO, 0 to 65,535 (4.5). */
 int hda_fetch(hda *device, uint8_t stream, uint32_t most);
-/* So many link frames pass, of 1/48,000 second each (5.3). Room is taken first for all that pins may hear in them, up
- * to four blocks a frame, also in reset and where no stream runs; HDA_NO_MEMORY where there is none. 1,000,000 frames
- * take 268 MB for one pin, which the device keeps and each snapshot has. For a long time hda_pass takes far less. */
+/* So many link frames pass, of 1/48,000 second each (5.3). Room is taken first for all that pins may hear in them and
+ * for the marks of hda_taken, up to four blocks a frame, also in reset and where no stream runs; HDA_NO_MEMORY where
+ * there is none. 1,000,000 frames take 268 MB for one pin, which the device keeps and each snapshot has. For a long
+ * time hda_pass takes far less. */
 int hda_link(hda *device, uint32_t frames);
 int hda_plug(hda *device, uint8_t codec, uint8_t nid);   /* something is plugged in at a pin (7.3.3.15) */
 int hda_unplug(hda *device, uint8_t codec, uint8_t nid); /* and pulled out; at a node that is no pin nothing happens */
@@ -259,9 +260,9 @@ int hda_log_schedule(const hda *device, FILE *file);
 
 /* ---- snapshots ---- */
 
-/* A copy of all that the device is: its registers, rings, streams and codecs, what its pins heard, its habits with
- * where their choices stand, and its memory where that is its own. Lent memory is the caller's to save. The log is no
- * part of it, and goes on where the device is put back. */
+/* A copy of all that the device is: its registers, rings, streams and codecs, what its pins heard and are given, its
+ * habits with where their choices stand, and its memory where that is its own. Lent memory is the caller's to save. The
+ * log is no part of it, and goes on where the device is put back. */
 typedef struct hda_saved hda_saved;
 
 /* Gives NULL where memory was wanting. */

@@ -7,7 +7,8 @@ use Rattle.period_writer.specs.Places.{place_in, touched, piece_start, piece_end
 
 -- the read of what stands in a period of the positions from one on: these bytes
 abbrev pub piece_read : (bytes : ℕ) → (periods : List ℕ) → (from period : ℕ) → (piece : List ℕ) → Event
-piece_read bytes periods from period piece = DmaRead (place_in bytes periods period (piece_start bytes from period)) piece
+piece_read bytes periods from period piece = DmaRead (place_in bytes periods period (piece_start bytes from period))
+    piece
 
 -- such reads of periods in turn, each with the bytes that it gave
 abbrev pub pieces_read : (bytes : ℕ) → (periods : List ℕ) → (from period : ℕ) → (pieces : List (List ℕ)) → List Event

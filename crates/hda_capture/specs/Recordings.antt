@@ -1,8 +1,8 @@
 -- What the runs of a recorder come to, as functions of the numbers that were read. This project's own.
 --
 -- The link's position counts the bytes that were taken since RUN rose. At a run it is the first position from the one
--- before on that LPIB stands for. What certainly left the FIFO lies at least the FIFO's whole blocks behind it: so far a
--- run reads, and no further than what is to be recorded.
+-- before on that LPIB stands for. What certainly left the FIFO lies at least the FIFO's whole blocks behind it: so far
+-- a run reads, and no further than what is to be recorded.
 use Rattle.std.specs.Prelude.{ℕ, ◌-◌, ◌==◌, ◌&&◌, Bool, true, false, min, max, List, [], ◌∷◌, ◌++◌}
 use Rattle.std.specs.Prelude.{if◌then◌else◌}
 use Rattle.stream_format.specs.Cadence.{block_bytes}
@@ -14,8 +14,8 @@ use Rattle.hda_capture.specs.declared.course.Recorded.{Recorded}
 use Rattle.hda_capture.specs.declared.course.Recorded.TheVariants.{Recording, Complete, Late}
 use Rattle.hda_capture.specs.declared.course.RecordCourse.{RecordCourse}
 
--- the numbers that runs go by: the bytes of the ring, how many of the FIFO's whole blocks, how many link frames may pass
--- from run to run, and the bytes to record
+-- the numbers that runs go by: the bytes of the ring, how many of the FIFO's whole blocks, how many link frames may
+-- pass from run to run, and the bytes to record
 pub record RecordMeasures : Type 0 where
   pub ring : ℕ
   pub behind : ℕ

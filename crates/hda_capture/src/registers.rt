@@ -17,7 +17,8 @@ pub const LIST_ADDRESS: u16 = places::INPUT_DESCRIPTOR + places::SDBDPL;
 
 /// SRST, by which the driver resets the stream (HDA 1.0a, 3.3.35).
 pub const STREAM_RESET: u32 = 1;
-/// Tag 1, and IOCE, FEIE and DEIE: the stream may interrupt where a period is full, its FIFO overran or its list is bad.
+/// Tag 1, and IOCE, FEIE and DEIE: the stream may interrupt where a period is full, its FIFO overran or its list is
+/// bad.
 pub const TAG_AND_INTERRUPTS: u32 = 0x0010_001C;
 /// RUN beside these.
 pub const RUN: u32 = 0x1E;

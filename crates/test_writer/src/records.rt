@@ -11,8 +11,8 @@ use writer_plays::{RecordPlayed, RecordScript, record_over};
 const MOST_GRANULES: u32 = 16_384;
 
 /// What is recorded by its words: the frames, the value of all reads that have none, the clock that the first run reads
-/// at its begin and that at its end; and of each later run the clock at its begin, LPIB, up to which position bytes were
-/// stored by then, and the clock at its end.
+/// at its begin and that at its end; and of each later run the clock at its begin, LPIB, up to which position bytes
+/// were stored by then, and the clock at its end.
 fn script_of(alloc: Global, words: &[Vec<u8>]) -> Result<Option<RecordScript>, AllocError> {
     let [frames, otherwise, from, to, later @ ..] = words else {
         return Ok(None);
@@ -36,15 +36,17 @@ fn script_of(alloc: Global, words: &[Vec<u8>]) -> Result<Option<RecordScript>, A
     }))
 }
 
-/// Puts what later runs answered, what is recorded, and what is left of the answers, of the pool, and of the room that
-/// the first run asks for.
+/// Puts what is left of the answers, of the pool, and of the room that the first run asks for; what the recorder tells
+/// of itself; what later runs answered, and what is recorded.
 fn push_played(text: &mut String, played: &RecordPlayed) -> Result<(), AllocError> {
     let (answers, free) = played.rest;
     let (accesses, bytes) = played.room;
+    let (limit, runs, recorded) = played.told;
     write!(
         text,
         "{answers} answers left, {free} granules free, room {accesses} {bytes}"
     )?;
+    write!(text, ", limit {limit}, {runs} runs, {recorded} bytes")?;
     for answer in &played.answers {
         write!(text, "\n  {answer:?}")?;
     }

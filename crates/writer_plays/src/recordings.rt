@@ -39,6 +39,8 @@ pub struct RecordPlayed {
     pub runs: Vec<RecordedRun>,
     pub bytes: Vec<u8>,
     pub accesses: Vec<Access>,
+    /// The limit, how many runs are recorded, and how many bytes, as the recorder told before it was closed.
+    pub told: (u32, usize, usize),
     /// How much room the first run left of that which it asks for.
     pub room: (usize, usize),
     /// How many answers were not asked for, and how many granules are free in the end.
@@ -165,6 +167,11 @@ pub fn record_over(
         script,
         &mut answers,
     );
+    let told = (
+        recorder.limit(),
+        recorder.runs().len(),
+        recorder.bytes().len(),
+    );
     let Recording { bytes, runs } = recorder.close(&mut pool);
     if outcome.is_err() {
         return Err(OpenFault::OutOfMemory);
@@ -178,6 +185,7 @@ pub fn record_over(
         runs,
         bytes,
         accesses,
+        told,
         room,
         rest: (platform.answers_left(), pool.free()),
     })

@@ -100,7 +100,8 @@ impl Recorder {
     /// Records the first run, which reads nothing.
     fn note_start(&mut self, from: u32, to: u32)
         requires fresh { self.old.course.started ≡ false }
-        ensures tally { tally_of self.new ≡ tally_after (measures_of self.old) (tally_of self.old) (facts_of from 0 to) }
+        ensures tally { tally_of self.new ≡ tally_after (measures_of self.old) (tally_of self.old)
+            (facts_of from 0 to) }
         ensures bytes { self.new.bytes ≡ self.old.bytes }
         ensures keeps { KeepsRecorderRing self.old self.new }
     {

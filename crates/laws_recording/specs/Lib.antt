@@ -1,0 +1,5 @@
+pub mod Filling
+pub mod Recording
+pub mod Beside
+pub mod Sound
+pub mod Opened
