@@ -1,0 +1,5 @@
+mod PageParts
+mod InputParts
+mod OverrunLemmas
+mod OverrunLaws
+mod FileLemmas

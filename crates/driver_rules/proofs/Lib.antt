@@ -1,0 +1,4 @@
+mod Onwards
+mod Waiting
+mod Going
+pub mod Callers
