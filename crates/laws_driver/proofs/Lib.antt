@@ -13,3 +13,4 @@ pub mod First
 pub mod Heard
 pub mod Ends
 pub mod Whole
+pub mod Leaving

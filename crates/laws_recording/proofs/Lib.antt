@@ -16,4 +16,3 @@ pub mod RunParts
 pub mod GoingOn
 pub mod EngineKept
 pub mod Sounding
-pub mod OpenHeard

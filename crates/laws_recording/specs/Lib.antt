@@ -2,4 +2,3 @@ pub mod Filling
 pub mod Recording
 pub mod Beside
 pub mod Sound
-pub mod Opened

@@ -4,13 +4,11 @@
 
 mod beside;
 mod ended;
-mod opened;
 mod recording;
 mod sound;
 
 pub use beside::{recordings_leave_the_engine, recordings_lie_apart};
 pub use ended::{a_stop_ends_a_recording, a_stopped_recording_is_over};
-pub use opened::an_open_input_is_heard;
 pub use recording::{
     a_first_recording_begins, events_beside_keep_recording, recordings_go_on, steps_keep_recording,
 };

@@ -1,0 +1,2 @@
+pub mod InputsHeard
+pub mod Exchanged

@@ -1,0 +1,3 @@
+pub mod Inputs
+-- what private functions promise one another
+pub mod Finding
