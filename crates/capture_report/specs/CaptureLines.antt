@@ -21,12 +21,12 @@ input_line address entry (outcome.Route route) =
 input_line address entry outcome.Blocked = []
 input_line address entry outcome.NoPath = []
 
-abbrev pub input_of : ℕ → PinPlan → List ℕ
-input_of address entry = input_line address entry entry.outcome
+abbrev pub entry_line_of : ℕ → PinPlan → List ℕ
+entry_line_of address entry = input_line address entry entry.outcome
 
 -- those of a codec's plan
 abbrev pub codec_inputs : ℕ → Plan → List ℕ
-codec_inputs address plan = flat_map (input_of address) plan.pins
+codec_inputs address plan = flat_map (entry_line_of address) plan.pins
 
 abbrev pub inputs_in : CodecFile × Plan → List ℕ
 inputs_in codec = codec_inputs codec.0.graph.address codec.1

@@ -29,7 +29,7 @@ fn push_hops(out: &mut String, hops: &[Hop]) -> Result<(), AllocError>
 
 /// The line of an input, where there is a way to it.
 fn push_input(out: &mut String, address: u8, entry: &PinPlan) -> Result<(), AllocError>
-    ensures { OnOk result (string_bytes out.new ≡ string_bytes out.old ++ text.input_of address entry.now) }
+    ensures { OnOk result (string_bytes out.new ≡ string_bytes out.old ++ text.entry_line_of address entry.now) }
 {
     let Outcome::Route(route) = &entry.outcome else {
         return Ok(());

@@ -1,5 +1,5 @@
-//! The text that the program writes of a capture: the input, how the recording went, the file that was recorded, and how
-//! it ended. It goes out page by page. This project's own.
+//! The text that the program writes of a capture: the input, how the recording went, the file that was recorded, and
+//! how it ended. It goes out page by page. This project's own.
 #![tactic(auto)]
 
 mod captured;

@@ -14,8 +14,8 @@ use Rattle.route_planner.specs.declared.routes.Plan.{Plan}
 use Rattle.route_planner.specs.Inputs.{AreInputEntries, IsInputPlan}
 use Rattle.input_verbs.specs.OpenInputs.{IsInputPlanAt, IsInputPlanIf}
 use Rattle.hda_files.specs.declared.machine.CodecFile.{CodecFile}
-use Rattle.program_captures.specs.Inputs.{Ascend, HasInput, IsInputOf, IsWithoutInput}
-use Rattle.program_captures.specs.Finding.{found_by, found_with, HasNoEntry, IsFound, IsNextPlan}
+use Rattle.program_captures.specs.Inputs.{Ascend, HasInputPin, IsInputOf, IsWithoutInput}
+use Rattle.program_captures.specs.Finding.{address_by, address_with, HasNoEntry, IsFound, IsNextPlan}
 
 -- ---- addresses
 
@@ -48,7 +48,7 @@ all_elsewhere file format (f ∷ files) (plan ∷ plans) below none =
 
 -- ---- one codec more
 
-entry_of : (format : Format) (file : CodecFile) (entry : PinPlan) (entries : List PinPlan) → AreInputEntries file.graph format (entry ∷ entries) → HasInput format file
+entry_of : (format : Format) (file : CodecFile) (entry : PinPlan) (entries : List PinPlan) → AreInputEntries file.graph format (entry ∷ entries) → HasInputPin format file
 entry_of format file entry [] is = (entry, is)
 entry_of format file entry (other ∷ entries) is = absurd is
 
@@ -75,7 +75,7 @@ behind_found format files address plans file plan below found none =
 
 -- none was found before it
 none_before : (format : Format) (files : List CodecFile) (plans : List Plan) (file : CodecFile) (plan : Plan) (pins : List PinPlan) → plan.pins ≡ pins → All (LiesBelow file) files
-    → IsFound format files None plans → IsInputPlan file.graph format plan → IsFound format (files ++ file ∷ []) (found_by file.graph pins) (plans ++ plan ∷ [])
+    → IsFound format files None plans → IsInputPlan file.graph format plan → IsFound format (files ++ file ∷ []) (address_by file.graph pins) (plans ++ plan ∷ [])
 none_before format files plans file plan [] pins_are below found is =
     let here : IsWithoutInput format file = subst (λ (p : List PinPlan). AreInputEntries file.graph format p) pins_are is in (
       All-append (IsWithoutInput format) files (file ∷ []) found.0 (All-cons (IsWithoutInput format) file [] here (All-nil (IsWithoutInput format))),
@@ -96,7 +96,7 @@ none_before format files plans file plan (entry ∷ entries) pins_are below foun
     }
 
 pub found_more : (format : Format) (files : List CodecFile) (plans : List Plan) (found : Option ℕ) (file : CodecFile) (plan : Plan) → All (LiesBelow file) files
-    → IsFound format files found plans → IsNextPlan found file.graph format plan → IsFound format (files ++ file ∷ []) (found_with found file.graph plan) (plans ++ plan ∷ [])
+    → IsFound format files found plans → IsNextPlan found file.graph format plan → IsFound format (files ++ file ∷ []) (address_with found file.graph plan) (plans ++ plan ∷ [])
 found_more format files plans (Some address) file plan below found is = behind_found format files address plans file plan below found is
 found_more format files plans None file plan below found is = none_before format files plans file plan plan.pins refl below found is
 

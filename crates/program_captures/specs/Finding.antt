@@ -16,13 +16,13 @@ IsNextPlan (Some address) graph format plan = plan.pins ≡ []
 IsNextPlan None graph format plan = IsInputPlan graph format plan
 
 -- the address of the one that is found with the next codec
-abbrev pub found_by : RawCodec → List PinPlan → Option ℕ
-found_by graph [] = None
-found_by graph (entry ∷ entries) = Some graph.address
+abbrev pub address_by : RawCodec → List PinPlan → Option ℕ
+address_by graph [] = None
+address_by graph (entry ∷ entries) = Some graph.address
 
-abbrev pub found_with : Option ℕ → RawCodec → Plan → Option ℕ
-found_with (Some address) graph plan = Some address
-found_with None graph plan = found_by graph plan.pins
+abbrev pub address_with : Option ℕ → RawCodec → Plan → Option ℕ
+address_with (Some address) graph plan = Some address
+address_with None graph plan = address_by graph plan.pins
 
 abbrev pub HasNoEntry : CodecFile → Plan → Type 0
 HasNoEntry file plan = plan.pins ≡ []

@@ -19,8 +19,8 @@ abbrev pub IsWithoutInput : Format → CodecFile → Type 0
 IsWithoutInput format file = AreInputEntries file.graph format []
 
 -- some has: the first one, with its least path
-abbrev pub HasInput : Format → CodecFile → Type 0
-HasInput format file = (entry : PinPlan) × IsInputEntry file.graph format entry
+abbrev pub HasInputPin : Format → CodecFile → Type 0
+HasInputPin format file = (entry : PinPlan) × IsInputEntry file.graph format entry
 
 -- what the set-up of the input means in a format, where the codec at the address is recorded from
 abbrev pub capture_means : (address : ℕ) → Format → Means
@@ -34,7 +34,7 @@ pub record IsInputOf (format : Format) (files : List CodecFile) (address : ℕ) 
   pub behind : List CodecFile
   pub among : files ≡ before ++ file ∷ behind
   pub first : All (IsWithoutInput format) before
-  pub has : HasInput format file
+  pub has : HasInputPin format file
   pub address_is : address ≡ file.graph.address
   pub planned : HavePlansBy (capture_means address format) files plans
 

@@ -1,7 +1,7 @@
 //! The codec from which is recorded, and the plans of all.
 ghost use Rattle.std.specs.Prelude.{◌≡◌, None, Ok, IfOk, IfSome, []};
 ghost use Rattle.program_captures.specs.Inputs.{Ascend, HasNoInput, IsInputOf};
-ghost use Rattle.program_captures.specs.Finding.{IsNextPlan, found_with};
+ghost use Rattle.program_captures.specs.Finding.{IsNextPlan, address_with};
 
 use codec_graph::Graph;
 use hda_files::CodecFile;
@@ -29,8 +29,8 @@ fn next_plan(
 }
 
 /// The address of the codec from which is recorded, with the plan of the next codec.
-fn found_with(found: Option<u8>, graph: &Graph, plan: &Plan) -> Option<u8>
-    ensures { result ≡ found_with found graph.now plan.now }
+fn address_with(found: Option<u8>, graph: &Graph, plan: &Plan) -> Option<u8>
+    ensures { result ≡ address_with found graph.now plan.now }
 {
     if found.is_some() || plan.pins.len() == 0 {
         return found;
@@ -57,7 +57,7 @@ pub fn inputs_of(
     let mut found = None;
     for codec in codecs {
         let plan = next_plan(alloc, found, &codec.graph, format)?;
-        found = found_with(found, &codec.graph, &plan);
+        found = address_with(found, &codec.graph, &plan);
         plans.push(plan)?;
     }
     match found {

@@ -13,7 +13,9 @@
 
 mod names;
 mod run;
+mod stretches;
 mod words;
 
 pub use run::{Cases, run_cases};
+pub use stretches::push_stretches;
 pub use words::{number_of, push_hex, text_of};

@@ -1,5 +1,6 @@
 //! Drivers that play nothing, and drivers over pools of few blocks.
 ghost use Rattle.std.specs.Prelude.{◌≡◌, false, IfOk, IfSome};
+ghost use Rattle.stream_format.specs.Cadence.{block_bytes};
 ghost use Rattle.period_writer.specs.Writers.{ring_size};
 
 use audio_driver::{Driver, OpenFault};
@@ -13,7 +14,9 @@ use test_cases::number_of;
 use wav_reader::{Supply, Wav};
 
 /// The format of the sound: 48 kHz, 16 bits, 2 channels.
-fn format() -> Format {
+pub fn format() -> Format
+    ensures { block_bytes result ≡ 4 }
+{
     Format {
         rate: Rate::R48,
         bits: Bits::B16,
@@ -22,7 +25,7 @@ fn format() -> Format {
 }
 
 /// A supply without sound.
-fn no_sound(alloc: Global) -> Supply {
+pub fn no_sound(alloc: Global) -> Supply {
     Supply::whole(Wav {
         format: format(),
         mono: false,
@@ -32,10 +35,10 @@ fn no_sound(alloc: Global) -> Supply {
 }
 
 /// How many blocks the pool of a driver has that plays nothing.
-const BLOCKS: u32 = 64;
+pub const BLOCKS: u32 = 64;
 
 /// How many calls such a driver may have.
-const CALLS: u32 = 1_000;
+pub const CALLS: u32 = 1_000;
 
 /// A driver that plays nothing, with a ring of two periods of one unit. `None` where it is not opened, which does not
 /// happen: its pool has blocks enough.

@@ -7,6 +7,7 @@ mod drivers;
 mod engine;
 mod formats;
 mod liars;
+mod recorders;
 mod scripted;
 mod setups;
 mod signals;
@@ -21,7 +22,7 @@ use std::process::ExitCode;
 use test_cases::{Cases, run_cases, text_of};
 
 /// The files of cases.
-const FILES: [&str; 10] = [
+const FILES: [&str; 11] = [
     "codecs.txt",
     "formats.txt",
     "walks.txt",
@@ -32,6 +33,7 @@ const FILES: [&str; 10] = [
     "polls.txt",
     "streams.txt",
     "lies.txt",
+    "recorders.txt",
 ];
 
 /// The calls that cases name.
@@ -72,6 +74,7 @@ impl Cases for Calls {
             "lied" => liars::tell(alloc, rest, Served::ByRuns),
             "lied_at_interrupts" => liars::tell(alloc, rest, Served::ByInterrupts),
             "lied_at_the_end" => liars::tell(alloc, rest, Served::UpToTheEnd),
+            "record" => recorders::tell(alloc, rest),
             "poll" => engine::tell_poll(alloc, rest),
             "standing" => engine::tell_standing(alloc, rest),
             _ => format!(in alloc; "no call"),

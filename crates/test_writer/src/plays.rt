@@ -2,43 +2,11 @@
 use crate::scripts::play_of;
 use std::alloc::{AllocError, Global};
 use std::fmt::Write;
-use test_cases::number_of;
+use test_cases::{number_of, push_stretches};
 use writer_plays::{Access, Played, finish_over, play_over};
 
 /// The bytes of the ring that are looked at after each run.
 const SEEN_BYTES: usize = 768;
-
-/// The byte of sound that follows one, which is never 0.
-fn next_of(byte: u8) -> u8 {
-    if byte == 255 { 1 } else { byte + 1 }
-}
-
-/// Puts some bytes under a name: how many follow one another in the sound, and the first of them, or how many are 0.
-pub fn push_bytes(text: &mut String, name: &str, bytes: &[u8]) -> Result<(), AllocError> {
-    write!(text, "\n  {name}")?;
-    let mut first = 0;
-    let mut expected = 0;
-    let mut count: u32 = 0;
-    for byte in bytes {
-        let goes_on = count > 0 && *byte == expected;
-        if !goes_on {
-            push_stretch(text, first, count)?;
-            first = *byte;
-            count = 0;
-        }
-        count = count.saturating_add(1);
-        expected = if *byte == 0 { 0 } else { next_of(*byte) };
-    }
-    push_stretch(text, first, count)
-}
-
-/// Puts so many bytes from a first one on.
-fn push_stretch(text: &mut String, first: u8, count: u32) -> Result<(), AllocError> {
-    if count == 0 {
-        return Ok(());
-    }
-    write!(text, " {count}x{first:02x}")
-}
 
 /// Puts what later runs answered, what is recorded, and what is left of the sound, of the answers and of the pool.
 fn push_course(text: &mut String, played: &Played) -> Result<(), AllocError> {
@@ -72,7 +40,7 @@ pub fn tell(alloc: Global, words: &[Vec<u8>]) -> Result<String, AllocError> {
     let mut text = String::new(alloc);
     push_course(&mut text, &played)?;
     for ring in played.rings.as_slice().chunks(SEEN_BYTES) {
-        push_bytes(&mut text, "ring", ring)?;
+        push_stretches(&mut text, "ring", ring)?;
     }
     Ok(text)
 }

@@ -1,10 +1,10 @@
 //! Recordings of a ring that is filled, and what comes of them.
-use crate::plays::{push_accesses, push_bytes};
+use crate::plays::push_accesses;
 use crate::rings::ring_of;
 use dma_pool::Pool;
 use std::alloc::{AllocError, Global};
 use std::fmt::Write;
-use test_cases::number_of;
+use test_cases::{number_of, push_stretches};
 use writer_plays::{RecordPlayed, RecordScript, record_over};
 
 /// The most granules of a pool here.
@@ -57,7 +57,7 @@ fn push_played(text: &mut String, played: &RecordPlayed) -> Result<(), AllocErro
             run.at, run.from, run.to, run.read
         )?;
     }
-    push_bytes(text, "bytes", played.bytes.as_slice())
+    push_stretches(text, "bytes", played.bytes.as_slice())
 }
 
 /// What comes of a recording, and so many of its accesses, from one on.

@@ -9,4 +9,4 @@ loop-codec-preserved c =
     let below = all_below c.args.codecs.now c.loop-codec.codec-index c.codec-item.result c.requires (omega (arith, test)) c.codec-item.is in
     let more = found_more c.args.format _ c.loop-codec.plans.items c.loop-codec.found c.codec-item.result c.in_ok-plan.plan below c.loop-codec.invariant c.in_ok-plan.ensures in
     let turn = take_more c.args.codecs.now c.loop-codec.codec-index c.codec-item.result (omega arith) in
-    rw (c.in_ok-push.ensures.items, turn, c.found_with-found.ensures, ← c.codec-item.is) more
+    rw (c.in_ok-push.ensures.items, turn, c.address_with-found.ensures, ← c.codec-item.is) more

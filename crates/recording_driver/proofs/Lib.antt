@@ -1,0 +1,6 @@
+mod Blocks
+mod Kept
+mod Stretches
+mod Accesses
+mod Called
+mod Ended
