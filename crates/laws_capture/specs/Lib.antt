@@ -1,1 +1,3 @@
 pub mod Listening
+pub mod Taking
+pub mod Capturing
