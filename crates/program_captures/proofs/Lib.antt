@@ -1,3 +1,13 @@
 mod FoundLemmas
 mod Lengths
 mod Counted
+mod Going
+mod Turning
+mod Ended
+mod Planned
+mod Started
+mod Outcomes
+mod Opened
+mod Called
+mod Finished
+mod Known

@@ -18,6 +18,7 @@ mod served_laws;
 mod walking;
 
 pub use commands::walk_total;
+pub use lines::line_count;
 pub use made_lines::made_line;
 pub use made_playing::play_made;
 pub use playing::play;

@@ -26,7 +26,7 @@ fn lines_among(items: &[Item]) -> usize
 }
 
 /// How many driver lines a schedule has, with repeats written out.
-pub(crate) fn line_count(schedule: &Schedule) -> u32
+pub fn line_count(schedule: &Schedule) -> u32
     requires { IsLimited schedule.now }
     ensures { result ≡ length (lines_of schedule.now) }
 {

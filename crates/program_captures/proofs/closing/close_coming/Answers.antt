@@ -1,0 +1,27 @@
+use Rattle.std.proofs.Common.{◌≡◌, [], length, ap, ◌∙◌, refl}
+use Rattle.rig.specs.declared.setting.Setting.{Setting}
+use Rattle.rig.specs.Rigs.{setting_of, telling_of}
+use Rattle.rig.specs.Stretches.{IsStretchFrom}
+use Rattle.program_runs.proofs.Callers.{stretched_from}
+use Rattle.program_captures.specs.declared.closing.Driven.{Driven}
+use Rattle.program_captures.specs.Capturing.{total_of}
+use Rattle.program_captures.proofs.Going.{KeepsFor}
+use Rattle.program_captures.proofs.Ended.{coming_ends, may_none, ends_none}
+use Rattle.program_captures.proofs.closing.close_coming.Goals as goal
+
+pub returns : goal.returns
+returns c =
+    let terms = c.args.terms in
+    let driver = c.args.driver in
+    let keeps : KeepsFor terms = λ verbs graphs task nid is. c.drivers_that_capture_keep_to_progress.ensures terms.input terms.geometry.format verbs graphs task (total_of terms) nid is.of_codecs is.silent is.hears in
+    let before = c.args.rig.now in
+    let after = c.end.new.self in
+    let closed = c.in_ok-closed.ensures in
+    let left = c.in_ok-closed.closed in
+    let driven : Driven = record { phase = left.phase; graphs = left.graphs; sent = left.sent; runs = c.new.result; bytes = c.new-2.result } in
+    let stretched : IsStretchFrom (length (telling_of before).journal) [] (telling_of after).journal =
+    stretched_from (setting_of c.close.new.platform) (setting_of c.begin.new.self) _ (telling_of after).journal closed.fixed c.in-Ok.ensures.setting c.end.ensures.stretch in
+    coming_ends terms keeps c.runs_follow.ensures.closing c.runs_follow.ensures.accesses before after (telling_of c.begin.new.self) (telling_of c.close.new.platform) driven driver c.in_ok-closed.closed c.requires.coming c.in-Ok.ensures.told.is
+    (closed.closes [] (may_none driver.supply c.requires.coming.silent) (ends_none driver.supply c.requires.coming.silent)) c.end.ensures.told.is stretched
+    (ap (λ (s : Setting). s.machine) c.end.ensures.setting ∙ ap (λ (s : Setting). s.machine) closed.fixed ∙ ap (λ (s : Setting). s.machine) c.in-Ok.ensures.setting)
+    (record { phase = refl; sent = refl; graphs = refl; runs = c.new.ensures.items; bytes = c.new-2.ensures.items })
