@@ -8,17 +8,20 @@ use Rattle.driver_agenda.specs.Planned.{have_route}
 use Rattle.hda_files.specs.declared.machine.CodecFile.{CodecFile}
 use Rattle.hda_outside.specs.Shelf.{Files}
 use Rattle.hda_outside.specs.Sink.{TookFront}
-use Rattle.program_words.specs.Asked.{make}
+use Rattle.program_words.specs.Asked.{asked_by, make}
+use Rattle.program_words.specs.declared.request.Request.{Request}
+use Rattle.program_words.specs.declared.request.Request.TheVariants as request
+use Rattle.capture_report.specs.declared.captured.Captured.{Captured}
 use Rattle.sound_report.specs.declared.played.Played.{Played}
 use Rattle.sound_report.specs.Statuses.{number_of}
 use Rattle.svg_text.specs.Pictures.{picture_text}
-use Rattle.hda_program.specs.Answers.{HasEnded, HasWritten, IsMeant, plans_meant}
+use Rattle.hda_program.specs.Answers.{HasEnded, HasWritten, IsMeant, RequestAnswers, RouteAnswers, plans_meant}
 use Rattle.hda_program.specs.Asks.{IsNoCommand, IsRouteOf}
 use Rattle.hda_program.specs.Files.{CodecStops}
 use Rattle.hda_program.specs.Meanings.{Meant}
 use Rattle.hda_program.specs.Promises.{HasRun, HasWalkedOrPlayed, KeepsPromise}
-use Rattle.hda_program.proofs.Callers.{WordsCase, ran, said, cases}
-use Rattle.draw_program.specs.Drawn.{CodecDrawn, HasEndedDrawing, IsDrawn, IsDrawnFor, IsRunDrawn, IsRunPictured, codecs_drawn}
+use Rattle.hda_program.proofs.Callers.{WordsCase, ran, recorded, said, cases, play_captures_nothing}
+use Rattle.draw_program.specs.Drawn.{CodecDrawn, HasEndedDrawing, IsDrawn, IsDrawnFor, IsForPicture, IsRunDrawn, IsRunPictured, codecs_drawn}
 use Rattle.draw_program.specs.Words.{played_words}
 use Rattle.draw_program.proofs.WordLemmas.{played_draws}
 
@@ -33,6 +36,28 @@ same_status false codecs plans e = rw e refl
 no_run : (routed : Bool) (codecs : List CodecFile) (plans : List Plan) → have_route plans ≡ routed → None ≡ (plans_meant codecs plans).play
 no_run true codecs plans e = rw e refl
 no_run false codecs plans e = rw e refl
+
+-- nor a capture
+no_capture : (routed : Bool) (codecs : List CodecFile) (plans : List Plan) → have_route plans ≡ routed → None ≡ (plans_meant codecs plans).capture
+no_capture true codecs plans e = rw e refl
+no_capture false codecs plans e = rw e refl
+
+-- what is answered to words for a picture is no capture
+route_alone : (told : Option Files) (failed : List ℕ → Type 0) (name : List ℕ) (format : Format) (meant : Meant) → RouteAnswers told failed name format meant → meant.capture ≡ None
+route_alone told failed name format meant (inl (inl unread)) = ap (λ (m : Meant). m.capture) unread.1
+route_alone told failed name format meant (inl (inr refused)) = ap (λ (m : Meant). m.capture) refused.2
+route_alone told failed name format meant (inr (machine, file, (plans, planned, is))) =
+    ap (λ (m : Meant). m.capture) is ∙ sym (no_capture (have_route plans) machine.codecs plans refl)
+
+pub captures_nothing : (told : Option Files) (failed emptied unasked : List ℕ → Type 0) (gave : ℕ → Type 0) (asked : Request) (meant : Meant) → IsForPicture (asked_by asked)
+    → RequestAnswers told failed emptied unasked gave asked meant → meant.capture ≡ None
+captures_nothing told failed emptied unasked gave (request.Route codec format) meant draws answers = route_alone told failed codec.now format meant answers
+captures_nothing told failed emptied unasked gave (request.Walk codec schedule) meant draws answers = absurd draws
+captures_nothing told failed emptied unasked gave (request.Play codec wav schedule periods period) meant draws answers =
+    play_captures_nothing Analog told failed emptied unasked gave codec.now wav.now schedule.now periods period meant answers
+captures_nothing told failed emptied unasked gave (request.Make number) meant draws answers = absurd draws
+captures_nothing told failed emptied unasked gave (request.Spdif codec wav schedule periods period) meant draws answers = absurd draws
+captures_nothing told failed emptied unasked gave (request.Capture codec wav schedule periods period) meant draws answers = absurd draws
 
 -- where it ends at the codec file there is no run
 stopped : (told : Option Files) (failed : List ℕ → Type 0) (name : List ℕ) (meant : Meant) → CodecStops told failed name meant → meant.play ≡ None
@@ -58,10 +83,10 @@ untold one other status same (inr (inr memory)) = inr (inr (memory.0, no_front o
 -- ---- the end
 
 module _ (told : Option Files) (failed emptied unasked : List ℕ → Type 0) (gave : ℕ → Type 0) (words : List (List ℕ)) (before after : Option (List ℕ)) (sink_failed : Type 0)
-    (play : Option Played) (status : ℕ) where
+    (play : Option Played) (capture : Option Captured) (status : ℕ) where
   -- the same words of `hda_play`
   abbrev Headline : Type 0
-  Headline = HasEnded told failed emptied unasked gave (played_words words) None None sink_failed play status
+  Headline = HasEnded told failed emptied unasked gave (played_words words) None None sink_failed play capture status
 
   abbrev Here : Meant → Type 0
   Here answer = WordsCase told failed emptied unasked gave (played_words words) answer
@@ -70,43 +95,48 @@ module _ (told : Option Files) (failed emptied unasked : List ℕ → Type 0) (g
   Written meant = HasWritten before after sink_failed meant status
 
   -- it answers so to these words, with the status and the run of what was written
-  answers : (meant answer : Meant) → IsMeant told failed emptied unasked gave (played_words words) answer → play ≡ answer.play → number_of meant.status ≡ number_of answer.status
+  answers : (meant answer : Meant) → IsMeant told failed emptied unasked gave (played_words words) answer → play ≡ answer.play → capture ≡ answer.capture → number_of meant.status ≡ number_of answer.status
       → Written meant → Headline
-  answers meant answer is given same written =
-      inl (record { meant = answer; is = is; given = given; written = untold meant answer status same written })
+  answers meant answer is given kept same written =
+      inl (record { meant = answer; is = is; given = given; given_capture = kept; written = untold meant answer status same written })
 
-  by_codec : (name : List ℕ) (format : Format) (meant : Meant) → IsRouteOf (played_words words) name format → CodecDrawn told failed name format meant → play ≡ meant.play → Written meant
+  by_codec : (name : List ℕ) (format : Format) (meant : Meant) → IsRouteOf (played_words words) name format → CodecDrawn told failed name format meant → play ≡ meant.play → capture ≡ meant.capture → Written meant
       → Headline
-  by_codec name format meant asks (inl stops) given written = answers meant meant (inr (inl (name, format, asks, inl stops))) given refl written
-  by_codec name format meant asks (inr (machine, file, (plans, planned, is))) given written =
+  by_codec name format meant asks (inl stops) given kept written = answers meant meant (inr (inl (name, format, asks, inl stops))) given kept refl written
+  by_codec name format meant asks (inr (machine, file, (plans, planned, is))) given kept written =
       let answer = plans_meant machine.codecs plans in
       answers meant answer (inr (inl (name, format, asks, inr (machine, file, (plans, planned, refl)))))
       (given ∙ (ap (λ (m : Meant). m.play) is ∙ no_run (have_route plans) machine.codecs plans refl))
+      (kept ∙ (ap (λ (m : Meant). m.capture) is ∙ no_capture (have_route plans) machine.codecs plans refl))
       (ap (λ (m : Meant). number_of m.status) is ∙ same_status (have_route plans) machine.codecs plans refl) written
 
   -- the drawing of a run's answer has its run and its status
-  by_case : (meant answer : Meant) → IsMeant told failed emptied unasked gave (played_words words) answer → Here answer → IsDrawnFor answer.play answer meant → play ≡ meant.play → Written meant
+  by_case : (meant answer : Meant) → IsMeant told failed emptied unasked gave (played_words words) answer → Here answer → IsDrawnFor answer.play answer meant → play ≡ meant.play → capture ≡ meant.capture → Written meant
       → Headline
-  by_case meant answer is (said of cause text e) drawn given written =
+  by_case meant answer is (said of cause text e) drawn given kept written =
       let same : meant ≡ answer = subst (λ (p : Option Played). IsDrawnFor p answer meant) (ap (λ (m : Meant). m.play) e) drawn in
-      answers meant answer is (given ∙ ap (λ (m : Meant). m.play) same) (ap (λ (m : Meant). number_of m.status) same) written
-  by_case meant answer is (ran played text run e) drawn given written =
+      answers meant answer is (given ∙ ap (λ (m : Meant). m.play) same) (kept ∙ ap (λ (m : Meant). m.capture) same) (ap (λ (m : Meant). number_of m.status) same) written
+  by_case meant answer is (recorded captured run e) drawn given kept written =
+      let same : meant ≡ answer = subst (λ (p : Option Played). IsDrawnFor p answer meant) (ap (λ (m : Meant). m.play) e) drawn in
+      answers meant answer is (given ∙ ap (λ (m : Meant). m.play) same) (kept ∙ ap (λ (m : Meant). m.capture) same) (ap (λ (m : Meant). number_of m.status) same) written
+  by_case meant answer is (ran played text run e) drawn given kept written =
       let shown : IsRunDrawn played meant = subst (λ (p : Option Played). IsDrawnFor p answer meant) (ap (λ (m : Meant). m.play) e) drawn in
       answers meant answer is (given ∙ (ap (λ (m : Meant). m.play) shown.2 ∙ sym (ap (λ (m : Meant). m.play) e)))
+      (kept ∙ (ap (λ (m : Meant). m.capture) shown.2 ∙ sym (ap (λ (m : Meant). m.capture) e)))
       (ap (λ (m : Meant). number_of m.status) shown.2 ∙ sym (ap (λ (m : Meant). number_of m.status) e)) written
 
-  by_meaning : (meant : Meant) → IsDrawn told failed emptied unasked gave words meant → play ≡ meant.play → Written meant → IsNoCommand (played_words words) ⊎ Headline
-  by_meaning meant (inl none) given written = inl none.0
-  by_meaning meant (inr (inl (name, format, asks, drawn))) given written = inr (by_codec name format meant asks drawn given written)
-  by_meaning meant (inr (inr (codec, wav, schedule, periods, period, asks, drawn))) given written =
+  by_meaning : (meant : Meant) → IsDrawn told failed emptied unasked gave words meant → play ≡ meant.play → capture ≡ meant.capture → Written meant → IsNoCommand (played_words words) ⊎ Headline
+  by_meaning meant (inl none) given kept written = inl none.0
+  by_meaning meant (inr (inl (name, format, asks, drawn))) given kept written = inr (by_codec name format meant asks drawn given kept written)
+  by_meaning meant (inr (inr (codec, wav, schedule, periods, period, asks, drawn))) given kept written =
       let is : IsMeant told failed emptied unasked gave (played_words words) drawn.answer =
       inr (inr (inr (inl (Analog, codec, wav, schedule, periods, period, asks, drawn.answers)))) in
-      inr (by_case meant drawn.answer is (cases told failed emptied unasked gave (played_words words) drawn.answer is) drawn.drawn given written)
+      inr (by_case meant drawn.answer is (cases told failed emptied unasked gave (played_words words) drawn.answer is) drawn.drawn given kept written)
 
   -- but for its text it has ended as `hda_play` does
-  pub ended_so : HasEndedDrawing told failed emptied unasked gave words before after sink_failed play status → IsNoCommand (played_words words) ⊎ Headline
-  ended_so (inl answered) = by_meaning answered.meant answered.is answered.given answered.written
-  ended_so (inr memory) = inr (inr (memory.0, memory.1, refl))
+  pub ended_so : HasEndedDrawing told failed emptied unasked gave words before after sink_failed play capture status → IsNoCommand (played_words words) ⊎ Headline
+  ended_so (inl answered) = by_meaning answered.meant answered.is answered.given answered.given_capture answered.written
+  ended_so (inr memory) = inr (inr (memory.0, memory.1, memory.2, refl))
 
   -- ---- the promise
 
@@ -124,6 +154,9 @@ module _ (told : Option Files) (failed emptied unasked : List ℕ → Type 0) (g
 
   run_kept : (meant answer : Meant) → Here answer → IsDrawnFor answer.play answer meant → play ≡ meant.play → Written meant → Kept play
   run_kept meant answer (said of cause text e) drawn given written =
+      let same : meant ≡ answer = subst (λ (p : Option Played). IsDrawnFor p answer meant) (ap (λ (m : Meant). m.play) e) drawn in
+      no_run_kept play (given ∙ (ap (λ (m : Meant). m.play) same ∙ ap (λ (m : Meant). m.play) e))
+  run_kept meant answer (recorded captured run e) drawn given written =
       let same : meant ≡ answer = subst (λ (p : Option Played). IsDrawnFor p answer meant) (ap (λ (m : Meant). m.play) e) drawn in
       no_run_kept play (given ∙ (ap (λ (m : Meant). m.play) same ∙ ap (λ (m : Meant). m.play) e))
   run_kept meant answer (ran played text run e) drawn given written =
@@ -144,6 +177,6 @@ module _ (told : Option Files) (failed emptied unasked : List ℕ → Type 0) (g
       inr (inr (inr (inl (Analog, codec, wav, schedule, periods, period, asks, drawn.answers)))) in
       run_kept meant drawn.answer (cases told failed emptied unasked gave (played_words words) drawn.answer is) drawn.drawn given written
 
-  pub promise_kept : HasEndedDrawing told failed emptied unasked gave words before after sink_failed play status → Kept play
+  pub promise_kept : HasEndedDrawing told failed emptied unasked gave words before after sink_failed play capture status → Kept play
   promise_kept (inl answered) = kept_by answered.meant answered.is answered.given answered.written
   promise_kept (inr memory) = no_run_kept play memory.1

@@ -3,7 +3,7 @@ use Rattle.std.proofs.Common.{◌≡◌, ℕ, Bool, true, false, List, [], ◌�
 use Rattle.std.specs.Prelude.{option_and_then, if◌then◌else◌}
 use Rattle.std.specs.Str.{bytes_eq}
 use Rattle.hda_outside.specs.Shelf.{Files}
-use Rattle.program_words.specs.Asked.{Asked, asked_by, asked_of, make, play, request_of, route, spdif, walk}
+use Rattle.program_words.specs.Asked.{Asked, asked_by, asked_of, capture, make, play, request_of, route, spdif, walk}
 use Rattle.program_words.specs.Commands.{play_grammar, route_grammar}
 use Rattle.program_words.specs.Lines.{CommandLine, command_line_of}
 use Rattle.program_words.specs.declared.request.Request.{Request}
@@ -23,6 +23,8 @@ route_draws None (make number) e = let bad : None ≡ Some (make number) = e in 
 route_draws (Some line) (make number) e = cc
 route_draws None (spdif codec wav schedule periods period) e = let bad : None ≡ Some (spdif codec wav schedule periods period) = e in cc
 route_draws (Some line) (spdif codec wav schedule periods period) e = cc
+route_draws None (capture codec wav schedule periods period) e = let bad : None ≡ Some (capture codec wav schedule periods period) = e in cc
+route_draws (Some line) (capture codec wav schedule periods period) e = cc
 
 play_draws : (line : Option CommandLine) (asked : Asked) → option_and_then (asked_of Play) line ≡ Some asked → IsForPicture asked
 play_draws line (route codec rate bits channels) e = tt
@@ -33,6 +35,8 @@ play_draws None (make number) e = let bad : None ≡ Some (make number) = e in c
 play_draws (Some line) (make number) e = cc
 play_draws None (spdif codec wav schedule periods period) e = let bad : None ≡ Some (spdif codec wav schedule periods period) = e in cc
 play_draws (Some line) (spdif codec wav schedule periods period) e = cc
+play_draws None (capture codec wav schedule periods period) e = let bad : None ≡ Some (capture codec wav schedule periods period) = e in cc
+play_draws (Some line) (capture codec wav schedule periods period) e = cc
 
 nothing_asked : (asked : Asked) → None ≡ Some asked → ⊥
 nothing_asked asked e = cc
@@ -57,3 +61,4 @@ request_drawn told failed emptied unasked gave words (request.Play codec wav sch
     inr (inr (codec.now, wav.now, schedule.now, periods, period, is, drawn))
 request_drawn told failed emptied unasked gave words (request.Make number) meant is drawn = absurd drawn
 request_drawn told failed emptied unasked gave words (request.Spdif codec wav schedule periods period) meant is drawn = absurd drawn
+request_drawn told failed emptied unasked gave words (request.Capture codec wav schedule periods period) meant is drawn = absurd drawn

@@ -7,11 +7,12 @@ use Rattle.route_planner.specs.declared.routes.Plan.{Plan}
 use Rattle.hda_files.specs.declared.machine.CodecFile.{CodecFile}
 use Rattle.hda_files.specs.declared.machine.Machine.{Machine}
 use Rattle.hda_outside.specs.Shelf.{Files}
-use Rattle.program_words.specs.Asked.{Asked, route, walk, play, make, spdif}
+use Rattle.program_words.specs.Asked.{Asked, route, walk, play, make, spdif, capture}
 use Rattle.program_words.specs.declared.request.Request.{Request}
 use Rattle.program_words.specs.declared.request.Request.TheVariants as request
 use Rattle.driver_agenda.specs.Planned.{have_route}
 use Rattle.laws_start.specs.Tasks.{HavePlans}
+use Rattle.capture_report.specs.declared.captured.Captured.{Captured}
 use Rattle.sound_report.specs.declared.played.Played.{Played}
 use Rattle.sound_report.specs.declared.status.Status.{Status}
 use Rattle.sound_report.specs.declared.status.Status.TheVariants.{Done, NothingRouted, WordsRefused}
@@ -85,6 +86,7 @@ IsForPicture (walk codec schedule) = ⊥
 IsForPicture (play codec wav schedule periods period) = Unit {0}
 IsForPicture (make number) = ⊥
 IsForPicture (spdif codec wav schedule periods period) = ⊥
+IsForPicture (capture codec wav schedule periods period) = ⊥
 
 abbrev pub RequestDrawn : Option Files → (failed emptied unasked : List ℕ → Type 0) → (gave : ℕ → Type 0) → Request
     → Meant → Type 0
@@ -95,6 +97,7 @@ RequestDrawn told failed emptied unasked gave (request.Play codec wav schedule p
     PlayDrawn told failed emptied unasked gave codec.now wav.now schedule.now periods period meant
 RequestDrawn told failed emptied unasked gave (request.Make number) meant = ⊥
 RequestDrawn told failed emptied unasked gave (request.Spdif codec wav schedule periods period) meant = ⊥
+RequestDrawn told failed emptied unasked gave (request.Capture codec wav schedule periods period) meant = ⊥
 
 -- what is drawn: the usage line where the words ask for no picture, the codecs of a file, or a run
 abbrev pub IsDrawn : Option Files → (failed emptied unasked : List ℕ → Type 0) → (gave : ℕ → Type 0)
@@ -110,9 +113,9 @@ IsDrawn told failed emptied unasked gave words meant =
 -- the program has ended so
 abbrev pub HasEndedDrawing : Option Files → (failed emptied unasked : List ℕ → Type 0) → (gave : ℕ → Type 0)
     → (words : List (List ℕ)) → (before after : Option (List ℕ)) → (sink_failed : Type 0) → Option Played
-    → (status : ℕ) → Type 0
-HasEndedDrawing told failed emptied unasked gave words before after sink_failed given status =
-    HasEndedWith (IsDrawn told failed emptied unasked gave words) before after sink_failed given status
+    → Option Captured → (status : ℕ) → Type 0
+HasEndedDrawing told failed emptied unasked gave words before after sink_failed given kept status =
+    HasEndedWith (IsDrawn told failed emptied unasked gave words) before after sink_failed given kept status
 
 -- the run is the one that `hda_play` makes of the same words, with what is promised there, and the text is its picture
 pub record IsRunPictured (told : Option Files) (failed emptied : List ℕ → Type 0) (gave : ℕ → Type 0)

@@ -91,14 +91,16 @@ fn draw_run(alloc: Global, played: Played) -> Result<Drawing, AllocError>
     Ok(Drawing::Run(played, picture))
 }
 
-/// The picture of the run of an answer, where it has one.
+/// The picture of the run of an answer that is no capture, where it has one.
 fn draw_answer(alloc: Global, answer: Answer) -> Result<Drawing, AllocError>
+    requires { (answer_meant answer).capture ≡ None }
     ensures { IfOk result (λ drawing. IsDrawnOf (answer_meant answer) (drawing_meant drawing)) }
 {
     match answer {
         Answer::Message(message) => Ok(Drawing::Message(message)),
         Answer::Run(played) => draw_run(alloc, played),
         Answer::Made(_, played) => draw_run(alloc, played),
+        Answer::Captured(_) => unreachable!(),
     }
 }
 
@@ -157,6 +159,9 @@ fn draw_request<S: Shelf>(
             let answer = answer_request(alloc, shelf, request)?;
             draw_answer(alloc, answer)
         }
-        Request::Walk { .. } | Request::Make { .. } | Request::Spdif { .. } => unreachable!(),
+        Request::Walk { .. }
+        | Request::Make { .. }
+        | Request::Spdif { .. }
+        | Request::Capture { .. } => unreachable!(),
     }
 }

@@ -35,7 +35,7 @@ pub fn draw_main<S: Shelf, K: Sink>(
         (UnaskedUnder (S.asked shelf.old) (S.asked shelf.new))
         (GivenAtMost (S.given shelf.old) (S.given shelf.new))
         (drop 1 (map string_bytes words.now)) (K.taken out.old) (K.taken out.new)
-        (Rose (K.faults out.old) (K.faults out.new)) result.play result.status }
+        (Rose (K.faults out.old) (K.faults out.new)) result.play result.capture result.status }
 
     // The run that is given is the one that `hda_play` makes of the same words, and the text is its picture.
     ensures promise { IfSome result.play (KeepsPromise (IsRunPictured (S.told shelf.old)
@@ -53,7 +53,7 @@ pub fn draw_main<S: Shelf, K: Sink>(
         (UnaskedUnder (S.asked shelf.old) (S.asked shelf.new))
         (GivenAtMost (S.given shelf.old) (S.given shelf.new))
         (played_words (drop 1 (map string_bytes words.now))) None None (Rose (K.faults out.old) (K.faults out.new))
-        result.play result.status }
+        result.play result.capture result.status }
 
     // The shelf is asked under the names of the words alone.
     ensures asked { AsksForItsFiles (played_words (drop 1 (map string_bytes words.now))) (S.asked shelf.old)
@@ -70,6 +70,7 @@ pub fn draw_main<S: Shelf, K: Sink>(
         Err(_) => Ended {
             status: Status::OutOfMemory.number(),
             play: None,
+            capture: None,
         },
     }
 }
@@ -79,20 +80,24 @@ fn write_drawing<K: Sink>(alloc: Global, out: &mut K, drawing: Drawing) -> Ended
     ensures written { HasWritten (K.taken out.old) (K.taken out.new) (Rose (K.faults out.old) (K.faults out.new))
         (drawing_meant drawing) result.status }
     ensures play { result.play ≡ (drawing_meant drawing).play }
+    ensures capture { result.capture ≡ (drawing_meant drawing).capture }
     ensures later { K.faults out.old ≤ K.faults out.new }
 {
     match drawing {
         Drawing::Message(message) => Ended {
             status: write_text(alloc, out, message.text.as_bytes(), message.status).number(),
             play: None,
+            capture: None,
         },
         Drawing::Codecs(status, picture) => Ended {
             status: write_shown(alloc, out, &picture, status).number(),
             play: None,
+            capture: None,
         },
         Drawing::Run(played, picture) => Ended {
             status: write_shown(alloc, out, &picture, status_of(&played)).number(),
             play: Some(played),
+            capture: None,
         },
     }
 }

@@ -10,23 +10,29 @@ use Rattle.hda_outside.specs.Shelf.{Files}
 use Rattle.hda_files.specs.declared.machine.Machine.{Machine}
 use Rattle.schedule_reader.specs.declared.schedule.Schedule.{Schedule}
 use Rattle.stream_format.specs.Cadence.{hertz}
-use Rattle.program_words.specs.Asked.{Asked, bits_of, request_of, route, walk}
+use Rattle.program_words.specs.Asked.{Asked, bits_of, capture, request_of, route, walk}
 use Rattle.wav_reader.specs.declared.opened.WavHead.{WavHead}
+use Rattle.wav_reader.specs.declared.wav.Wav.{Wav}
+use Rattle.capture_report.specs.declared.captured.Captured.{Captured}
 use Rattle.sound_report.specs.declared.played.Played.{Played}
 use Rattle.sound_report.specs.declared.status.Status.{Status}
 use Rattle.sound_report.specs.declared.status.Status.TheVariants.{Done, WordsRefused, ShelfFailed, SinkFailed, CodecRefused, WavRefused, ScheduleRefused, NothingRouted, Unanswered, Late, ScheduleEnded, OutOfMemory, GeometryRefused, WavShrank}
 use Rattle.sound_report.specs.PlanLines.{plans_lines}
 use Rattle.hda_program.specs.Answers.{IsMeant, RouteAnswers, WalkAnswers, MachineWalks, PlansWalk, PlayAnswers, AtCodec, AtPins, AtWav, AtSchedule, AtRing, AtPlans, AtRun}
-use Rattle.hda_program.specs.Asks.{IsNoCommand, IsRouteOf, IsWalkOf, IsSoundOf, Names, NamesCodecFile, codec_of, files_asked, files_of}
+use Rattle.hda_program.specs.CaptureAnswers.{CaptureAnswers}
+use Rattle.hda_program.specs.CaptureAnswers as capturing
+use Rattle.hda_program.specs.Asks.{IsCaptureOf, IsNoCommand, IsRouteOf, IsWalkOf, IsSoundOf, Names, NamesCodecFile, codec_of, files_asked, files_of}
 use Rattle.program_runs.specs.Walks.{walk_format}
-use Rattle.hda_program.specs.Causes.{HasBadCodecFile, HasBadRing, HasBadSchedule, HasBadWav, HasManyDigitalPins, HasPlanned, NoRoute, SomeRoute, HasStoppedUnread, HasUnreadFile, WantsRun, WantsSound}
-use Rattle.hda_program.specs.Promises.{HasRun}
+use Rattle.hda_program.specs.Causes.{HasBadCodecFile, HasBadGiven, HasBadRecordingRing, HasBadRing, HasBadSchedule, HasBadWav, HasManyDigitalPins, HasPlanned, HasPlannedInput, NoRoute, SomeRoute, HasStoppedUnread, HasUnreadFile, WantsCapture, WantsRun, WantsSound}
+use Rattle.hda_program.specs.Promises.{HasCaptured, HasRun}
 use Rattle.hda_program.specs.Files.{CodecStops, IsHeadOf, IsMachineOf, IsScheduleOf, ScheduleStops}
-use Rattle.hda_program.specs.Meanings.{Meant, run_meant, telling, unrouted}
+use Rattle.hda_program.specs.Given.{IsGivenOf}
+use Rattle.hda_program.specs.Meanings.{Meant, of_capture, run_meant, telling, unrouted}
 use Rattle.hda_program.specs.Pins.{AreFewPins, AreTooManyPins}
 use Rattle.hda_program.proofs.SoundWords.{sound_codec, sound_files}
 use Rattle.hda_program.proofs.WalkLemmas.{other_first, other_one, other_second}
 use Rattle.laws_start.specs.Tasks.{HavePlans}
+use Rattle.program_captures.specs.Inputs.{HasNoInput}
 use Rattle.driver_agenda.specs.Planned.{have_route}
 
 -- a route was asked for, and there is one
@@ -40,23 +46,24 @@ Cause told failed unasked words WordsRefused = IsNoCommand words
 Cause told failed unasked words ShelfFailed = HasUnreadFile failed words × HasStoppedUnread failed unasked (files_asked (request_of words))
 Cause told failed unasked words SinkFailed = ⊥
 Cause told failed unasked words CodecRefused = HasBadCodecFile told words ⊎ HasManyDigitalPins told words
-Cause told failed unasked words WavRefused = HasBadWav told words
+Cause told failed unasked words WavRefused = HasBadWav told words ⊎ HasBadGiven told words
 Cause told failed unasked words ScheduleRefused = HasBadSchedule told words
-Cause told failed unasked words NothingRouted = HasPlanned told words NoRoute
+Cause told failed unasked words NothingRouted = HasPlanned told words NoRoute ⊎ HasPlannedInput told words HasNoInput
 Cause told failed unasked words Unanswered = ⊥
 Cause told failed unasked words Late = ⊥
 Cause told failed unasked words ScheduleEnded = ⊥
 Cause told failed unasked words OutOfMemory = ⊥
-Cause told failed unasked words GeometryRefused = HasBadRing told words
+Cause told failed unasked words GeometryRefused = HasBadRing told words ⊎ HasBadRecordingRing told words
 Cause told failed unasked words WavShrank = ⊥
 
--- a text alone, for a cause, or a run that is told by a text
-pub data Case (Cause : Status → Type 0) (Run : Played → List ℕ → Type 0) (meant : Meant) : Type 0 where
-  said : (status : Status) → Cause status → (text : List ℕ) → meant ≡ telling status text → Case Cause Run meant
-  ran : (played : Played) (text : List ℕ) → Run played text → meant ≡ run_meant played text → Case Cause Run meant
+-- a text alone, for a cause, or a run that is told by a text, or a capture
+pub data Case (Cause : Status → Type 0) (Run : Played → List ℕ → Type 0) (Capture : Captured → Type 0) (meant : Meant) : Type 0 where
+  said : (status : Status) → Cause status → (text : List ℕ) → meant ≡ telling status text → Case Cause Run Capture meant
+  ran : (played : Played) (text : List ℕ) → Run played text → meant ≡ run_meant played text → Case Cause Run Capture meant
+  recorded : (captured : Captured) → Capture captured → meant ≡ of_capture captured → Case Cause Run Capture meant
 
 abbrev pub WordsCase : Option Files → (failed emptied unasked : List ℕ → Type 0) → (gave : ℕ → Type 0) → List (List ℕ) → Meant → Type 0
-WordsCase told failed emptied unasked gave words meant = Case (Cause told failed unasked words) (HasRun told failed emptied gave words) meant
+WordsCase told failed emptied unasked gave words meant = Case (Cause told failed unasked words) (HasRun told failed emptied gave words) (HasCaptured told words) meant
 
 module _ (told : Option Files) (failed emptied unasked : List ℕ → Type 0) (gave : ℕ → Type 0) (words : List (List ℕ)) where
   -- the words name the files of what they ask
@@ -91,7 +98,7 @@ module _ (told : Option Files) (failed emptied unasked : List ℕ → Type 0) (g
   route_plans name format machine plans meant is file planned true some e =
       said Done (name, format, is, record { kind = Analog; codec_name = name; format = format; machine = machine; plans = plans; wants = inl (refl, is); codec_file = file; pins = tt; planned = planned; routed = some }) _ e
   route_plans name format machine plans meant is file planned false some e =
-      said NothingRouted (record { kind = Analog; codec_name = name; format = format; machine = machine; plans = plans; wants = inl (refl, is); codec_file = file; pins = tt; planned = planned; routed = some }) _ e
+      said NothingRouted (inl (record { kind = Analog; codec_name = name; format = format; machine = machine; plans = plans; wants = inl (refl, is); codec_file = file; pins = tt; planned = planned; routed = some })) _ e
 
   route_cases : (name : List ℕ) (format : Format) (meant : Meant) → IsRouteOf words name format → RouteAnswers told failed name format meant → WordsCase told failed emptied unasked gave words meant
   route_cases name format meant is (inl stop) =
@@ -105,7 +112,7 @@ module _ (told : Option Files) (failed emptied unasked : List ℕ → Type 0) (g
   walk_plans : (codec name : List ℕ) (machine : Machine) (schedule : Schedule) (plans : List Plan) (meant : Meant) → IsWalkOf words codec name → IsMachineOf told codec machine
       → IsScheduleOf told name schedule → HavePlans walk_format machine.codecs plans → PlansWalk machine schedule plans meant → WordsCase told failed emptied unasked gave words meant
   walk_plans codec name machine schedule plans meant is file steps planned (inl none) =
-      said NothingRouted (record {
+      said NothingRouted (inl (record {
         kind = Analog;
         codec_name = codec;
         format = walk_format;
@@ -116,7 +123,7 @@ module _ (told : Option Files) (failed emptied unasked : List ℕ → Type 0) (g
         pins = tt;
         planned = planned;
         routed = none.0;
-      }) _ none.1
+      })) _ none.1
   walk_plans codec name machine schedule plans meant is file steps planned (inr run) =
       ran run.0 _ (inl (
         inl (record {
@@ -197,7 +204,7 @@ module _ (told : Option Files) (failed emptied unasked : List ℕ → Type 0) (g
           },
         ) _ stop.1
     play_cases (AtWav machine file pins (inr stop) alone) =
-        said WavRefused (record {
+        said WavRefused (inl (record {
           kind = kind;
           codec_name = codec;
           wav_name = wav;
@@ -210,11 +217,11 @@ module _ (told : Option Files) (failed emptied unasked : List ℕ → Type 0) (g
           codec_file = file;
           pins = pins;
           refused = stop.1;
-        }) _ stop.2
+        })) _ stop.2
     play_cases (AtSchedule machine head file pins wav_file stop) =
-        schedule_stop kind (codec ∷ wav ∷ []) codec name machine meant files_are (inr (head, play_wants head wav_file)) (named_of name (2, omega arith, refl)) file pins stop
+        schedule_stop kind (codec ∷ wav ∷ []) codec name machine meant files_are (inr (inl (head, play_wants head wav_file))) (named_of name (2, omega arith, refl)) file pins stop
     play_cases (AtRing machine head schedule file pins wav_file steps stop) =
-        said GeometryRefused (record {
+        said GeometryRefused (inl (record {
           kind = kind;
           codec_name = codec;
           wav_name = wav;
@@ -231,9 +238,9 @@ module _ (told : Option Files) (failed emptied unasked : List ℕ → Type 0) (g
           wav_file = wav_file;
           schedule_file = steps;
           refused = stop.1;
-        }) _ stop.2
+        })) _ stop.2
     play_cases (AtPlans machine head schedule geometry plans file pins wav_file steps ring planned none same) =
-        said NothingRouted (record {
+        said NothingRouted (inl (record {
           kind = kind;
           codec_name = codec;
           format = head.format;
@@ -244,12 +251,89 @@ module _ (told : Option Files) (failed emptied unasked : List ℕ → Type 0) (g
           pins = pins;
           planned = planned;
           routed = none;
-        }) _ same
+        })) _ same
     play_cases (AtRun played files same) =
         ran played _ (inl (
           inr (record { kind = kind; codec_name = codec; wav_name = wav; schedule_name = name; periods = periods; period = period; asks = is; files = files }),
           refl,
         )) same
+
+  -- ---- `capture`
+
+  module _ (codec wav name : List ℕ) (periods period : ℕ) (meant : Meant) (is : IsCaptureOf words codec wav name periods period) where
+    captured_files_are : files_asked (request_of words) ≡ codec ∷ wav ∷ name ∷ []
+    captured_files_are = ap files_asked is
+
+    captured_name : (other : List ℕ) → Contains (codec ∷ wav ∷ name ∷ []) other → Names words other
+    captured_name other among = names_of (capture codec wav name periods period) other is among
+
+    capture_wants : (sound : Wav) → IsGivenOf told wav sound → WantsCapture told words codec name
+    capture_wants sound file = record { wav_name = wav; periods = periods; period = period; sound = sound; asks = is; wav_file = file }
+
+    capture_cases : CaptureAnswers told failed unasked codec wav name periods period meant → WordsCase told failed emptied unasked gave words meant
+    capture_cases (capturing.AtCodec stop alone) =
+        codec_stop codec (wav ∷ name ∷ []) meant (captured_name codec (0, omega arith, refl)) captured_files_are (ap (option_and_then codec_of) is)
+        (λ other within apart. alone other (other_one codec other apart)) stop
+    capture_cases (capturing.AtWav machine file (inl stop) alone) =
+        said ShelfFailed (
+          (wav, captured_name wav (1, omega arith, refl), stop.0),
+          record {
+            before = codec ∷ [];
+            name = wav;
+            after = name ∷ [];
+            among = captured_files_are;
+            unread = stop.0;
+            stopped = λ other within apart. alone other (other_second codec wav other apart) (other_first codec wav other apart);
+          },
+        ) _ stop.1
+    capture_cases (capturing.AtWav machine file (inr stop) alone) =
+        said WavRefused (inr (record {
+          codec_name = codec;
+          wav_name = wav;
+          schedule_name = name;
+          periods = periods;
+          period = period;
+          machine = machine;
+          text = stop.0;
+          asks = is;
+          codec_file = file;
+          refused = stop.1;
+        })) _ stop.2
+    capture_cases (capturing.AtSchedule machine sound file wav_file stop) =
+        schedule_stop Analog (codec ∷ wav ∷ []) codec name machine meant captured_files_are (inr (inr (refl, capture_wants sound wav_file))) (captured_name name (2, omega arith, refl)) file tt stop
+    capture_cases (capturing.AtRing machine sound schedule file wav_file steps stop) =
+        said GeometryRefused (inr (record {
+          codec_name = codec;
+          wav_name = wav;
+          schedule_name = name;
+          periods = periods;
+          period = period;
+          machine = machine;
+          sound = sound;
+          schedule = schedule;
+          fault = stop.0;
+          asks = is;
+          codec_file = file;
+          wav_file = wav_file;
+          schedule_file = steps;
+          refused = stop.1;
+        })) _ stop.2
+    capture_cases (capturing.AtInput machine sound schedule geometry file wav_file steps ring none same) =
+        said NothingRouted (inr (record {
+          codec_name = codec;
+          wav_name = wav;
+          schedule_name = name;
+          periods = periods;
+          period = period;
+          machine = machine;
+          sound = sound;
+          asks = is;
+          codec_file = file;
+          wav_file = wav_file;
+          planned = none;
+        })) _ same
+    capture_cases (capturing.AtRun captured files same) =
+        recorded captured (record { codec_name = codec; wav_name = wav; schedule_name = name; periods = periods; period = period; asks = is; files = files }) same
 
   -- ---- all commands
 
@@ -258,5 +342,6 @@ module _ (told : Option Files) (failed emptied unasked : List ℕ → Type 0) (g
   cases meant (inr (inl asked)) = route_cases asked.0 asked.1 meant asked.2 asked.3
   cases meant (inr (inr (inl asked))) = walk_cases asked.0 asked.1 meant asked.2 asked.3
   cases meant (inr (inr (inr (inl asked)))) = play_cases asked.0 asked.1 asked.2 asked.3 asked.4 asked.5 meant asked.6 asked.7
-  cases meant (inr (inr (inr (inr asked)))) =
+  cases meant (inr (inr (inr (inr (inl asked))))) =
       ran asked.2.played _ (inr (record { number = asked.0; asks = asked.1; run = asked.2.run; ends = asked.2.ends; line = refl })) asked.2.is
+  cases meant (inr (inr (inr (inr (inr asked))))) = capture_cases asked.0 asked.1 asked.2 asked.3 asked.4 meant asked.5 asked.6

@@ -14,13 +14,14 @@ use Rattle.stream_format.proofs.Callers.{one_format}
 use Rattle.hda_files.specs.declared.machine.Machine.{Machine}
 use Rattle.schedule_reader.specs.declared.schedule.Schedule.{Schedule}
 use Rattle.stream_format.specs.Cadence.{hertz}
-use Rattle.program_words.specs.Asked.{bits_of, route, walk, make}
+use Rattle.program_words.specs.Asked.{bits_of, capture, route, walk, make}
 use Rattle.program_words.proofs.Callers.{bits_of-same, hertz-same}
 use Rattle.period_writer.specs.declared.geometry.GeometryFault.{GeometryFault}
 use Rattle.period_writer.specs.Rings.{fault_of}
 use Rattle.wav_reader.specs.declared.opened.WavHead.{WavHead}
 use Rattle.driver_progress.specs.declared.phase.Phase.{Phase}
 use Rattle.driver_progress.specs.declared.phase.Phase.TheVariants.{Ready, Unanswered}
+use Rattle.capture_report.specs.declared.captured.Captured.{Captured}
 use Rattle.sound_report.specs.declared.played.Played.{Played}
 use Rattle.sound_report.specs.declared.played.PlayFault.{PlayFault}
 use Rattle.sound_report.specs.declared.played.PlayFault.TheVariants as fault
@@ -46,7 +47,7 @@ use Rattle.hda_program.proofs.OneReading.{codec_unrefused, one_machine, one_plan
 
 -- ---- the statuses of runs
 
-of_play : (end : Option PlayFault) → IsOfPlay (number_of (fault_status end))
+pub of_play : (end : Option PlayFault) → IsOfPlay (number_of (fault_status end))
 of_play None = inl (inl refl)
 of_play (Some (fault.Unanswered codec command issued noticed)) = inl (inr (inl refl))
 of_play (Some (fault.Late from to limit)) = inr refl
@@ -201,8 +202,10 @@ route_of_words told failed emptied unasked gave words name format meant routes (
     let channels : other.channels ≡ format.channels = cc in
     subst (λ (f : Format). RouteAnswers told failed name f meant) (same_format format other rates bits channels) (subst (λ (n : List ℕ). RouteAnswers told failed n other meant) name_is answers)
 route_of_words told failed emptied unasked gave words name format meant routes (inr (inr (inl (codec, schedule, asks, answers)))) = absurd (not_route_and_walk words name format codec schedule routes asks)
-route_of_words told failed emptied unasked gave words name format meant routes (inr (inr (inr (inr (number, asks, answers))))) =
+route_of_words told failed emptied unasked gave words name format meant routes (inr (inr (inr (inr (inl (number, asks, answers)))))) =
     let bad : make number ≡ route name (hertz format.rate) (bits_of format.bits) format.channels = same_asked words _ _ asks routes in cc
+route_of_words told failed emptied unasked gave words name format meant routes (inr (inr (inr (inr (inr (codec, wav, schedule, most, units, asks, answers)))))) =
+    let bad : capture codec wav schedule most units ≡ route name (hertz format.rate) (bits_of format.bits) format.channels = same_asked words _ _ asks routes in cc
 route_of_words told failed emptied unasked gave words name format meant routes (inr (inr (inr (inl (kind, codec, wav, schedule, most, units, asks, answers))))) =
     absurd (not_route_and_sound words name format kind codec wav schedule most units routes asks)
 
@@ -215,8 +218,10 @@ walk_of_words told failed emptied unasked gave words codec name meant walks (inr
     let codec_is : first ≡ codec = cc in
     let name_is : second ≡ name = cc in
     subst (λ (n : List ℕ). WalkAnswers told failed unasked codec n meant) name_is (subst (λ (n : List ℕ). WalkAnswers told failed unasked n second meant) codec_is answers)
-walk_of_words told failed emptied unasked gave words codec name meant walks (inr (inr (inr (inr (number, asks, answers))))) =
+walk_of_words told failed emptied unasked gave words codec name meant walks (inr (inr (inr (inr (inl (number, asks, answers)))))) =
     let bad : make number ≡ walk codec name = same_asked words _ _ asks walks in cc
+walk_of_words told failed emptied unasked gave words codec name meant walks (inr (inr (inr (inr (inr (first, second, third, most, units, asks, answers)))))) =
+    let bad : capture first second third most units ≡ walk codec name = same_asked words _ _ asks walks in cc
 walk_of_words told failed emptied unasked gave words codec name meant walks (inr (inr (inr (inl (kind, first, second, third, most, units, asks, answers))))) =
     no_sound kind first second third most units (walk codec name) refl (same_asked words _ _ asks walks)
 
@@ -228,14 +233,16 @@ sound_of_words told failed emptied unasked gave words kind codec wav name period
     absurd (not_route_and_sound words asked.0 asked.1 kind codec wav name periods period asked.2 plays)
 sound_of_words told failed emptied unasked gave words kind codec wav name periods period meant plays (inr (inr (inl (first, second, asks, answers)))) =
     no_sound kind codec wav name periods period (walk first second) refl (same_asked words _ _ plays asks)
-sound_of_words told failed emptied unasked gave words kind codec wav name periods period meant plays (inr (inr (inr (inr (number, asks, answers))))) =
+sound_of_words told failed emptied unasked gave words kind codec wav name periods period meant plays (inr (inr (inr (inr (inl (number, asks, answers)))))) =
     no_sound kind codec wav name periods period (make number) refl (same_asked words _ _ plays asks)
+sound_of_words told failed emptied unasked gave words kind codec wav name periods period meant plays (inr (inr (inr (inr (inr (first, second, third, most, units, asks, answers)))))) =
+    no_sound kind codec wav name periods period (capture first second third most units) refl (same_asked words _ _ plays asks)
 sound_of_words told failed emptied unasked gave words kind codec wav name periods period meant plays (inr (inr (inr (inl (other, first, second, third, most, units, asks, answers))))) =
     same_sound (λ k c w n p q. PlayAnswers k told failed emptied unasked gave c w n p q meant) other kind first second third codec wav name most units periods period (same_asked words _ _ asks plays) answers
 
 -- ---- the end
 
-module _ (before after : Option (List ℕ)) (sink_failed : Type 0) (given : Option Played) (status : ℕ) (sink_good : sink_failed → ⊥) where
+module _ (before after : Option (List ℕ)) (sink_failed : Type 0) (given : Option Played) (kept : Option Captured) (status : ℕ) (sink_good : sink_failed → ⊥) where
   written_run : (IsOf : ℕ → Type 0) (meant : Meant) → IsRunOf IsOf meant → HasWritten before after sink_failed meant status → IsOf status ⊎ (status ≡ number_of OutOfMemory)
   written_run IsOf meant (played, ends, is) (inl whole) =
       let number : number_of (status_of played) ≡ status = sym (whole.0 ∙ ap (λ (m : Meant). number_of m.status) is) in inl (subst IsOf number ends)
@@ -243,7 +250,7 @@ module _ (before after : Option (List ℕ)) (sink_failed : Type 0) (given : Opti
   written_run IsOf meant run (inr (inr memory)) = inr memory.0
 
   ended_run : (CanMean : Meant → Type 0) (IsOf : ℕ → Type 0) → ((meant : Meant) → CanMean meant → IsRunOf IsOf meant)
-      → HasEndedWith CanMean before after sink_failed given status → IsOf status ⊎ (status ≡ number_of OutOfMemory)
+      → HasEndedWith CanMean before after sink_failed given kept status → IsOf status ⊎ (status ≡ number_of OutOfMemory)
   ended_run CanMean IsOf run (inl answered) = written_run IsOf answered.meant (run answered.meant answered.is) answered.written
   ended_run CanMean IsOf run (inr memory) = inr memory.0
 
@@ -254,31 +261,31 @@ module _ (before after : Option (List ℕ)) (sink_failed : Type 0) (given : Opti
 
   module _ (told : Option Files) (failed emptied unasked : List ℕ → Type 0) (gave : ℕ → Type 0) where
     pub route_complete : (words : List (List ℕ)) (name : List ℕ) (format : Format) → IsRouteOf words name format → CanRoute told failed name format
-        → HasEnded told failed emptied unasked gave words before after sink_failed given status → HasRoutes status
+        → HasEnded told failed emptied unasked gave words before after sink_failed given kept status → HasRoutes status
     route_complete words name format routes can (inl answered) =
         written_done answered.meant (route_meant told failed name format can answered.meant (route_of_words told failed emptied unasked gave words name format answered.meant routes answered.is)) answered.written
     route_complete words name format routes can (inr memory) = inr memory.0
 
     pub files_complete : (kind : PinKind) (codec wav name : List ℕ) (periods period : ℕ) → CanPlay kind told failed codec wav name periods period
-        → HasEndedPlay kind told failed emptied unasked gave codec wav name periods period before after sink_failed given status → HasPlayedOn status
+        → HasEndedPlay kind told failed emptied unasked gave codec wav name periods period before after sink_failed given kept status → HasPlayedOn status
     files_complete kind codec wav name periods period can ended =
         ended_run (PlayAnswers kind told failed emptied unasked gave codec wav name periods period) IsOfPlay (λ meant is. play_meant kind told failed emptied codec wav name periods period can meant unasked gave is) ended
 
     pub sound_complete : (words : List (List ℕ)) (kind : PinKind) (codec wav name : List ℕ) (periods period : ℕ) → IsSoundOf kind words codec wav name periods period
-        → CanPlay kind told failed codec wav name periods period → HasEnded told failed emptied unasked gave words before after sink_failed given status → HasPlayedOn status
+        → CanPlay kind told failed codec wav name periods period → HasEnded told failed emptied unasked gave words before after sink_failed given kept status → HasPlayedOn status
     sound_complete words kind codec wav name periods period plays can ended =
         ended_run (IsMeant told failed emptied unasked gave words) IsOfPlay
         (λ meant is. play_meant kind told failed emptied codec wav name periods period can meant unasked gave (sound_of_words told failed emptied unasked gave words kind codec wav name periods period meant plays is)) ended
 
     pub walk_complete : (words : List (List ℕ)) (codec name : List ℕ) → IsWalkOf words codec name → CanWalk told failed codec name
-        → HasEnded told failed emptied unasked gave words before after sink_failed given status → HasWalkedOn status
+        → HasEnded told failed emptied unasked gave words before after sink_failed given kept status → HasWalkedOn status
     walk_complete words codec name walks can ended =
         ended_run (IsMeant told failed emptied unasked gave words) IsOfWalk (λ meant is. walk_meant told failed unasked codec name can meant (walk_of_words told failed emptied unasked gave words codec name meant walks is)) ended
 
 -- ---- and its run is given
 
-module _ (before after : Option (List ℕ)) (sink_failed : Type 0) (given : Option Played) (status : ℕ) (enough : status ≢ number_of OutOfMemory) where
-  given_run : (CanMean : Meant → Type 0) (IsOf : ℕ → Type 0) → ((meant : Meant) → CanMean meant → IsRunOf IsOf meant) → HasEndedWith CanMean before after sink_failed given status → IsSome given
+module _ (before after : Option (List ℕ)) (sink_failed : Type 0) (given : Option Played) (kept : Option Captured) (status : ℕ) (enough : status ≢ number_of OutOfMemory) where
+  given_run : (CanMean : Meant → Type 0) (IsOf : ℕ → Type 0) → ((meant : Meant) → CanMean meant → IsRunOf IsOf meant) → HasEndedWith CanMean before after sink_failed given kept status → IsSome given
   given_run CanMean IsOf run (inl answered) =
       let one = run answered.meant answered.is in
       let play : given ≡ Some one.0 = answered.given ∙ ap (λ (m : Meant). m.play) one.2 in
@@ -287,17 +294,17 @@ module _ (before after : Option (List ℕ)) (sink_failed : Type 0) (given : Opti
 
   module _ (told : Option Files) (failed emptied unasked : List ℕ → Type 0) (gave : ℕ → Type 0) where
     pub files_given : (kind : PinKind) (codec wav name : List ℕ) (periods period : ℕ) → CanPlay kind told failed codec wav name periods period
-        → HasEndedPlay kind told failed emptied unasked gave codec wav name periods period before after sink_failed given status → IsSome given
+        → HasEndedPlay kind told failed emptied unasked gave codec wav name periods period before after sink_failed given kept status → IsSome given
     files_given kind codec wav name periods period can ended =
         given_run (PlayAnswers kind told failed emptied unasked gave codec wav name periods period) IsOfPlay (λ meant is. play_meant kind told failed emptied codec wav name periods period can meant unasked gave is) ended
 
     pub sound_given : (words : List (List ℕ)) (kind : PinKind) (codec wav name : List ℕ) (periods period : ℕ) → IsSoundOf kind words codec wav name periods period
-        → CanPlay kind told failed codec wav name periods period → HasEnded told failed emptied unasked gave words before after sink_failed given status → IsSome given
+        → CanPlay kind told failed codec wav name periods period → HasEnded told failed emptied unasked gave words before after sink_failed given kept status → IsSome given
     sound_given words kind codec wav name periods period plays can ended =
         given_run (IsMeant told failed emptied unasked gave words) IsOfPlay
         (λ meant is. play_meant kind told failed emptied codec wav name periods period can meant unasked gave (sound_of_words told failed emptied unasked gave words kind codec wav name periods period meant plays is)) ended
 
     pub walk_given : (words : List (List ℕ)) (codec name : List ℕ) → IsWalkOf words codec name → CanWalk told failed codec name
-        → HasEnded told failed emptied unasked gave words before after sink_failed given status → IsSome given
+        → HasEnded told failed emptied unasked gave words before after sink_failed given kept status → IsSome given
     walk_given words codec name walks can ended =
         given_run (IsMeant told failed emptied unasked gave words) IsOfWalk (λ meant is. walk_meant told failed unasked codec name can meant (walk_of_words told failed emptied unasked gave words codec name meant walks is)) ended

@@ -5,12 +5,17 @@ mod WriteLemmas
 mod WalkLemmas
 mod PlayLemmas
 mod PlayWays
+mod CaptureWords
+mod CaptureLemmas
 mod Cases
 mod Endings
+mod CaptureEndings
 mod PlayCases
 mod PlayEndings
 mod OneReading
+mod GivenLemmas
 mod Complete
+mod CaptureComplete
 mod Served
 mod MadeLemmas
 mod MadePlan

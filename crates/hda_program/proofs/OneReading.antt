@@ -25,10 +25,10 @@ use Rattle.hda_program.specs.Files.{IsCodecRefused, IsHeadIn, IsLonger, IsMachin
 -- ---- bytes
 
 module _ (files : Files) (name : List ℕ) where
-  one_file : (bytes other : List ℕ) → file_of files name ≡ Some bytes → file_of files name ≡ Some other → bytes ≡ other
+  pub one_file : (bytes other : List ℕ) → file_of files name ≡ Some bytes → file_of files name ≡ Some other → bytes ≡ other
   one_file bytes other here there = let same : Some bytes ≡ Some other = sym here ∙ there in cc
 
-  not_longer : (most : ℕ) (bytes : List ℕ) → IsShortFile most (Some files) name bytes → IsLonger most (Some files) name → ⊥
+  pub not_longer : (most : ℕ) (bytes : List ℕ) → IsShortFile most (Some files) name bytes → IsLonger most (Some files) name → ⊥
   not_longer most bytes short (other, there, long) =
       let same : length bytes ≡ length other = ap (λ (b : List ℕ). length b) (one_file bytes other short.file there) in absurd (omega (arith, short.short, long, same))
 

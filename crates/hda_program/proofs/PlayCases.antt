@@ -1,7 +1,8 @@
 -- The ways in which something is meant by a sound of three files.
-use Rattle.std.proofs.Common.{ℕ, List, [], ◌∷◌, inl, inr, Option, refl, arith}
+use Rattle.std.proofs.Common.{◌≡◌, ℕ, List, [], ◌∷◌, inl, inr, Option, None, ap, refl, arith}
 use Rattle.codec_graph.specs.declared.pin_kind.PinKind.{PinKind}
 use Rattle.hda_outside.specs.Shelf.{Files}
+use Rattle.capture_report.specs.declared.captured.Captured.{Captured}
 use Rattle.sound_report.specs.declared.status.Status.{Status}
 use Rattle.sound_report.specs.declared.status.Status.TheVariants.{Done, WordsRefused, ShelfFailed, SinkFailed, CodecRefused, WavRefused, ScheduleRefused, NothingRouted, Unanswered, Late, ScheduleEnded, OutOfMemory, GeometryRefused, WavShrank}
 use Rattle.hda_program.specs.Answers.{PlayAnswers, AtCodec, AtPins, AtWav, AtSchedule, AtRing, AtPlans, AtRun}
@@ -9,7 +10,7 @@ use Rattle.hda_program.specs.Causes.{HasStoppedUnread}
 use Rattle.hda_program.specs.PlayedFiles.{HasPlayedFiles}
 use Rattle.hda_program.specs.Promises.{IsReported}
 use Rattle.hda_program.specs.Meanings.{Meant}
-use Rattle.hda_program.proofs.Cases.{Case, ran, said}
+use Rattle.hda_program.proofs.Cases.{Case, ran, recorded, said}
 use Rattle.hda_program.proofs.WalkLemmas.{other_first, other_one, other_second}
 
 -- a status with which a text alone is meant: that of a file that could not be read has this cause
@@ -33,9 +34,13 @@ IsRefusal Unread WavShrank = ⊥
 abbrev pub UnreadOf : (failed unasked : List ℕ → Type 0) → (codec wav name : List ℕ) → Type 0
 UnreadOf failed unasked codec wav name = HasStoppedUnread failed unasked (codec ∷ wav ∷ name ∷ [])
 
+-- and no capture is meant
+abbrev pub IsNoCapture : Captured → Type 0
+IsNoCapture captured = ⊥
+
 module _ (kind : PinKind) (told : Option Files) (failed emptied unasked : List ℕ → Type 0) (gave : ℕ → Type 0) (codec wav name : List ℕ) (periods period : ℕ) (meant : Meant) where
   abbrev PlayCase : Type 0
-  PlayCase = Case (IsRefusal (UnreadOf failed unasked codec wav name)) (IsReported (HasPlayedFiles kind told failed emptied gave codec wav name periods period)) meant
+  PlayCase = Case (IsRefusal (UnreadOf failed unasked codec wav name)) (IsReported (HasPlayedFiles kind told failed emptied gave codec wav name periods period)) IsNoCapture meant
 
   pub play_cases : PlayAnswers kind told failed emptied unasked gave codec wav name periods period meant → PlayCase
   play_cases (AtCodec (inl stop) alone) =
@@ -72,3 +77,12 @@ module _ (kind : PinKind) (told : Option Files) (failed emptied unasked : List �
   play_cases (AtRing machine head schedule file pins wav_file steps stop) = said GeometryRefused tt _ stop.2
   play_cases (AtPlans machine head schedule geometry plans file pins wav_file steps ring planned none is) = said NothingRouted tt _ is
   play_cases (AtRun played files is) = ran played _ (files, refl) is
+
+  -- no capture is among them
+  pub play_captures_nothing : PlayAnswers kind told failed emptied unasked gave codec wav name periods period meant → meant.capture ≡ None
+  play_captures_nothing answers = by (play_cases answers)
+    where
+      by : PlayCase → meant.capture ≡ None
+      by (said status cause text e) = ap (λ (m : Meant). m.capture) e
+      by (ran played text run e) = ap (λ (m : Meant). m.capture) e
+      by (recorded captured none e) = absurd none

@@ -25,6 +25,7 @@ use Rattle.period_writer.specs.Rings.{ring_bytes, limit_of, slack_of, ahead_of}
 use Rattle.laws_start.specs.Reading.{IsRead}
 use Rattle.laws_start.specs.Tasks.{HavePlans}
 use Rattle.program_runs.specs.Outputs.{HavePlansOf}
+use Rattle.capture_report.specs.declared.captured.Captured.{Captured}
 use Rattle.sound_report.specs.declared.played.Played.{Played}
 use Rattle.sound_report.specs.declared.played.CutLine.{CutLine}
 use Rattle.sound_report.specs.declared.played.CutLine.TheVariants as cuts
@@ -230,7 +231,7 @@ none_given None status IsOf (inl is) some none = let given : IsSome {T = Played}
 none_given None status IsOf (inr memory) some none = memory
 none_given (Some played) status IsOf ended some none = let is : IsNone (Some played) = none in cc
 
-module _ (before after : Option (List ℕ)) (sink_failed : Type 0) (given : Option Played) (status : ℕ) (sink_good : sink_failed → ⊥) (told : Option Files) (failed emptied unasked : List ℕ → Type 0) (gave : ℕ → Type 0) where
+module _ (before after : Option (List ℕ)) (sink_failed : Type 0) (given : Option Played) (kept : Option Captured) (status : ℕ) (sink_good : sink_failed → ⊥) (told : Option Files) (failed emptied unasked : List ℕ → Type 0) (gave : ℕ → Type 0) where
   -- the words ask for a walk: no play is given
   walk_of_run : (law : WalkLaw) (words : List (List ℕ)) (codec name : List ℕ) (played : Played) (text : List ℕ) → IsWalkOf words codec name → (can : CanWalk told failed codec name) → HasRun told failed emptied gave words played text
       → ServesBringUp Analog walk_format can.machine can.plans can.schedule → WalksSo can.machine can.plans can.schedule played × (status_of played ≡ fault_status played.fault)
@@ -241,13 +242,13 @@ module _ (before after : Option (List ℕ)) (sink_failed : Type 0) (given : Opti
   walk_of_run law words codec name played text walks can (inl (inr sounded, is)) serves =
       no_sound sounded.kind sounded.codec_name sounded.wav_name sounded.schedule_name sounded.periods sounded.period (walk codec name) refl (same_asked words _ _ sounded.asks walks)
 
-  pub walk_serves : (law : WalkLaw) (words : List (List ℕ)) (codec name : List ℕ) → IsWalkOf words codec name → (can : CanWalk told failed codec name) → HasEnded told failed emptied unasked gave words before after sink_failed given status
+  pub walk_serves : (law : WalkLaw) (words : List (List ℕ)) (codec name : List ℕ) → IsWalkOf words codec name → (can : CanWalk told failed codec name) → HasEnded told failed emptied unasked gave words before after sink_failed given kept status
       → ServesBringUp Analog walk_format can.machine can.plans can.schedule → EndsSo (WalksSo can.machine can.plans can.schedule) given status
   walk_serves law words codec name walks can ended serves =
       ends_so before after sink_failed status (HasRun told failed emptied gave words) (WalksSo can.machine can.plans can.schedule) sink_good (λ played text run. walk_of_run law words codec name played text walks can run serves) given
-      (run_promised told failed emptied unasked gave words before after sink_failed given status ended)
-      (none_given given status IsOfWalk (walk_complete before after sink_failed given status sink_good told failed emptied unasked gave words codec name walks can ended)
-      (λ is. walk_runs told failed emptied unasked gave words before after sink_failed given status ended codec name walks is))
+      (run_promised told failed emptied unasked gave words before after sink_failed given kept status ended)
+      (none_given given status IsOfWalk (walk_complete before after sink_failed given kept status sink_good told failed emptied unasked gave words codec name walks can ended)
+      (λ is. walk_runs told failed emptied unasked gave words before after sink_failed given kept status ended codec name walks is))
 
   -- the words ask for a sound: no walk is given
   sound_of_run : (kind : PinKind) (law : PlayLaw) (whole_law : WholeLaw) (words : List (List ℕ)) (codec wav name : List ℕ) (periods period : ℕ) (played : Played) (text : List ℕ) (geometry : Geometry) → IsSoundOf kind words codec wav name periods period
@@ -269,33 +270,33 @@ module _ (before after : Option (List ℕ)) (sink_failed : Type 0) (given : Opti
     status_so played so = ap (λ (cut : Option CutLine). end_status cut played.fault) so.uncut
 
     module _ (Ends : Played → Type 0) (each : (played : Played) → SoundedSo told failed kind codec wav name periods period can geometry played → Ends played) where
-      words_so : (words : List (List ℕ)) → IsSoundOf kind words codec wav name periods period → HasEnded told failed emptied unasked gave words before after sink_failed given status → EndsSo Ends given status
+      words_so : (words : List (List ℕ)) → IsSoundOf kind words codec wav name periods period → HasEnded told failed emptied unasked gave words before after sink_failed given kept status → EndsSo Ends given status
       words_so words plays ended =
           ends_so before after sink_failed status (HasRun told failed emptied gave words) Ends sink_good
           (λ played text run. let so = sound_of_run kind law whole_law words codec wav name periods period played text geometry plays can shape run serves in (each played so, status_so played so)) given
-          (run_promised told failed emptied unasked gave words before after sink_failed given status ended)
-          (none_given given status IsOfPlay (sound_complete before after sink_failed given status sink_good told failed emptied unasked gave words kind codec wav name periods period plays can ended)
-          (λ is. sound_runs told failed emptied unasked gave words before after sink_failed given status ended kind codec wav name periods period plays (inl is)))
+          (run_promised told failed emptied unasked gave words before after sink_failed given kept status ended)
+          (none_given given status IsOfPlay (sound_complete before after sink_failed given kept status sink_good told failed emptied unasked gave words kind codec wav name periods period plays can ended)
+          (λ is. sound_runs told failed emptied unasked gave words before after sink_failed given kept status ended kind codec wav name periods period plays (inl is)))
 
-      files_so : HasEndedPlay kind told failed emptied unasked gave codec wav name periods period before after sink_failed given status → EndsSo Ends given status
+      files_so : HasEndedPlay kind told failed emptied unasked gave codec wav name periods period before after sink_failed given kept status → EndsSo Ends given status
       files_so ended =
           ends_so before after sink_failed status (IsReported (HasPlayedFiles kind told failed emptied gave codec wav name periods period)) Ends sink_good
           (λ played text run. let so = played_so told failed kind law whole_law emptied gave codec wav name periods period played geometry can shape run.0 serves in (each played so, status_so played so)) given
-          (files_promised kind told failed emptied unasked gave codec wav name periods period before after sink_failed given status ended)
-          (none_given given status IsOfPlay (files_complete before after sink_failed given status sink_good told failed emptied unasked gave kind codec wav name periods period can ended)
-          (λ is. files_runs kind told failed emptied unasked gave codec wav name periods period before after sink_failed given status ended (inl is)))
+          (files_promised kind told failed emptied unasked gave codec wav name periods period before after sink_failed given kept status ended)
+          (none_given given status IsOfPlay (files_complete before after sink_failed given kept status sink_good told failed emptied unasked gave kind codec wav name periods period can ended)
+          (λ is. files_runs kind told failed emptied unasked gave codec wav name periods period before after sink_failed given kept status ended (inl is)))
 
-    pub sound_serves : (words : List (List ℕ)) → IsSoundOf kind words codec wav name periods period → HasEnded told failed emptied unasked gave words before after sink_failed given status
+    pub sound_serves : (words : List (List ℕ)) → IsSoundOf kind words codec wav name periods period → HasEnded told failed emptied unasked gave words before after sink_failed given kept status
         → EndsSo (PlaysSo kind can.machine can.plans can.head can.schedule) given status
     sound_serves words plays ended = words_so (PlaysSo kind can.machine can.plans can.head can.schedule) (λ played so. so.ends) words plays ended
 
-    pub sound_serves_whole : (words : List (List ℕ)) → IsSoundOf kind words codec wav name periods period → HasEnded told failed emptied unasked gave words before after sink_failed given status
+    pub sound_serves_whole : (words : List (List ℕ)) → IsSoundOf kind words codec wav name periods period → HasEnded told failed emptied unasked gave words before after sink_failed given kept status
         → EndsSo (PlaysWhole kind can.machine can.plans can.head geometry can.schedule) given status
     sound_serves_whole words plays ended = words_so (PlaysWhole kind can.machine can.plans can.head geometry can.schedule) (λ played so. so.whole) words plays ended
 
-    pub files_serve : HasEndedPlay kind told failed emptied unasked gave codec wav name periods period before after sink_failed given status → EndsSo (PlaysSo kind can.machine can.plans can.head can.schedule) given status
+    pub files_serve : HasEndedPlay kind told failed emptied unasked gave codec wav name periods period before after sink_failed given kept status → EndsSo (PlaysSo kind can.machine can.plans can.head can.schedule) given status
     files_serve ended = files_so (PlaysSo kind can.machine can.plans can.head can.schedule) (λ played so. so.ends) ended
 
-    pub files_serve_whole : HasEndedPlay kind told failed emptied unasked gave codec wav name periods period before after sink_failed given status
+    pub files_serve_whole : HasEndedPlay kind told failed emptied unasked gave codec wav name periods period before after sink_failed given kept status
         → EndsSo (PlaysWhole kind can.machine can.plans can.head geometry can.schedule) given status
     files_serve_whole ended = files_so (PlaysWhole kind can.machine can.plans can.head geometry can.schedule) (λ played so. so.whole) ended

@@ -2,7 +2,7 @@
 use Rattle.std.proofs.Common.{◌≡◌, ◌∙◌, ℕ, Bool, true, false, List, [], ◌∷◌, Some, refl, sym, ap, subst}
 use Rattle.codec_graph.specs.declared.pin_kind.PinKind.{PinKind}
 use Rattle.codec_graph.specs.declared.pin_kind.PinKind.TheVariants.{Analog, Digital}
-use Rattle.program_words.specs.Asked.{Asked, make, play, route, spdif, walk}
+use Rattle.program_words.specs.Asked.{Asked, capture, make, play, route, spdif, walk}
 use Rattle.hda_program.specs.Asks.{codec_of, files_of, sound_asked}
 
 -- the files that they name
@@ -21,6 +21,7 @@ is_sound (walk codec name) = false
 is_sound (play codec wav name periods period) = true
 is_sound (make number) = false
 is_sound (spdif codec wav name periods period) = true
+is_sound (capture codec wav name periods period) = false
 
 sounds : (kind : PinKind) (codec wav name : List ℕ) (periods period : ℕ) → is_sound (sound_asked kind codec wav name periods period) ≡ true
 sounds Analog codec wav name periods period = refl
@@ -38,6 +39,7 @@ module _ (P : PinKind → (codec wav name : List ℕ) → (periods period : ℕ)
   Of (play codec wav name periods period) = P Analog codec wav name periods period
   Of (make number) = Unit {0}
   Of (spdif codec wav name periods period) = P Digital codec wav name periods period
+  Of (capture codec wav name periods period) = Unit {0}
 
   into : (kind : PinKind) (codec wav name : List ℕ) (periods period : ℕ) → P kind codec wav name periods period → Of (sound_asked kind codec wav name periods period)
   into Analog codec wav name periods period holds = holds

@@ -31,9 +31,11 @@ request_meant told failed emptied unasked gave words (request.Route codec format
 request_meant told failed emptied unasked gave words (request.Walk codec schedule) meant is answers = inr (inr (inl (codec.now, schedule.now, is, answers)))
 request_meant told failed emptied unasked gave words (request.Play codec wav schedule periods period) meant is answers =
     inr (inr (inr (inl (Analog, codec.now, wav.now, schedule.now, periods, period, is, answers))))
-request_meant told failed emptied unasked gave words (request.Make number) meant is answers = inr (inr (inr (inr (number, is, answers))))
+request_meant told failed emptied unasked gave words (request.Make number) meant is answers = inr (inr (inr (inr (inl (number, is, answers)))))
 request_meant told failed emptied unasked gave words (request.Spdif codec wav schedule periods period) meant is answers =
     inr (inr (inr (inl (Digital, codec.now, wav.now, schedule.now, periods, period, is, answers))))
+request_meant told failed emptied unasked gave words (request.Capture codec wav schedule periods period) meant is answers =
+    inr (inr (inr (inr (inr (codec.now, wav.now, schedule.now, periods, period, is, answers)))))
 
 -- a name that the words do not name is none of the request's files
 pub other_name : (words : List (List ℕ)) (asked : Asked) (name : List ℕ) → request_of words ≡ Some asked → (Names words name → ⊥) → Contains (files_of asked) name → ⊥

@@ -17,7 +17,9 @@ use Rattle.sound_report.specs.declared.played.Played.{Played}
 use Rattle.sound_report.specs.declared.status.Status.TheVariants.{Done, WordsRefused, SinkFailed, OutOfMemory}
 use Rattle.sound_report.specs.PlanLines.{plans_lines}
 use Rattle.sound_report.specs.Statuses.{number_of}
-use Rattle.hda_program.specs.Asks.{IsNoCommand, IsRouteOf, IsWalkOf, IsSoundOf}
+use Rattle.capture_report.specs.declared.captured.Captured.{Captured}
+use Rattle.hda_program.specs.Asks.{IsCaptureOf, IsNoCommand, IsRouteOf, IsWalkOf, IsSoundOf}
+use Rattle.hda_program.specs.CaptureAnswers.{CaptureAnswers}
 use Rattle.program_runs.specs.Walks.{walk_format, IsWalked}
 use Rattle.hda_program.specs.Files.{IsMachineOf, IsHeadOf, IsScheduleOf, CodecStops, WavStops, ScheduleStops}
 use Rattle.hda_program.specs.Files.{IsAskedAlone}
@@ -123,6 +125,8 @@ RequestAnswers told failed emptied unasked gave (request.Play codec wav schedule
 RequestAnswers told failed emptied unasked gave (request.Make number) meant = MakeAnswers number meant
 RequestAnswers told failed emptied unasked gave (request.Spdif codec wav schedule periods period) meant =
     PlayAnswers Digital told failed emptied unasked gave codec.now wav.now schedule.now periods period meant
+RequestAnswers told failed emptied unasked gave (request.Capture codec wav schedule periods period) meant =
+    CaptureAnswers told failed unasked codec.now wav.now schedule.now periods period meant
 
 -- what the program answers to its words, where the shelf told these files, failed under some names, answered under some
 -- with no byte, was not asked under some, and gave no more than some numbers of bytes
@@ -136,7 +140,10 @@ IsMeant told failed emptied unasked gave words meant =
     ⊎ (((kind : PinKind) × (codec : List ℕ) × (wav : List ℕ) × (name : List ℕ) × (periods : ℕ) × (period : ℕ)
     × IsSoundOf kind words codec wav name periods period
     × PlayAnswers kind told failed emptied unasked gave codec wav name periods period meant)
-    ⊎ ((number : ℕ) × IsMakeOf words number × MakeAnswers number meant))))
+    ⊎ (((number : ℕ) × IsMakeOf words number × MakeAnswers number meant)
+    ⊎ ((codec : List ℕ) × (wav : List ℕ) × (name : List ℕ) × (periods : ℕ) × (period : ℕ)
+    × IsCaptureOf words codec wav name periods period
+    × CaptureAnswers told failed unasked codec wav name periods period meant)))))
 
 -- ---- the end
 
@@ -148,34 +155,38 @@ HasWritten before after sink_failed meant status =
     ⊎ (((status ≡ number_of SinkFailed) × sink_failed × TookFront before after meant.text)
     ⊎ ((status ≡ number_of OutOfMemory) × TookFront before after meant.text))
 
--- something that can be meant was written so, and its run is given, if it has one
+-- something that can be meant was written so, and its run or its capture is given, if it has one
 pub record HasAnswered (CanMean : Meant → Type 0) (before after : Option (List ℕ)) (sink_failed : Type 0)
-    (play : Option Played) (status : ℕ) : Type 0 where
+    (play : Option Played) (capture : Option Captured) (status : ℕ) : Type 0 where
   pub meant : Meant
   pub is : CanMean meant
   pub given : play ≡ meant.play
+  pub given_capture : capture ≡ meant.capture
   pub written : HasWritten before after sink_failed meant status
 
 -- it has answered with something that can be meant, or memory was wanting before anything was meant, and nothing was
 -- written
-abbrev pub HasEndedWith : (Meant → Type 0) → Option (List ℕ) → Option (List ℕ) → Type 0 → Option Played → ℕ → Type 0
-HasEndedWith CanMean before after sink_failed play status =
-    HasAnswered CanMean before after sink_failed play status
-    ⊎ ((status ≡ number_of OutOfMemory) × (play ≡ None) × (after ≡ before))
+abbrev pub HasEndedWith : (Meant → Type 0) → Option (List ℕ) → Option (List ℕ) → Type 0 → Option Played
+    → Option Captured → ℕ → Type 0
+HasEndedWith CanMean before after sink_failed play capture status =
+    HasAnswered CanMean before after sink_failed play capture status
+    ⊎ ((status ≡ number_of OutOfMemory) × (play ≡ None) × (capture ≡ None) × (after ≡ before))
 
 -- the program has ended so, with what it answers to its words
 abbrev pub HasEnded : Option Files → (failed emptied unasked : List ℕ → Type 0) → (gave : ℕ → Type 0)
     → (words : List (List ℕ))
-    → (before after : Option (List ℕ)) → (sink_failed : Type 0) → Option Played → (status : ℕ) → Type 0
-HasEnded told failed emptied unasked gave words before after sink_failed play status =
-    HasEndedWith (IsMeant told failed emptied unasked gave words) before after sink_failed play status
+    → (before after : Option (List ℕ)) → (sink_failed : Type 0) → Option Played → Option Captured → (status : ℕ)
+    → Type 0
+HasEnded told failed emptied unasked gave words before after sink_failed play capture status =
+    HasEndedWith (IsMeant told failed emptied unasked gave words) before after sink_failed play capture status
 
 -- it has ended so, with what is answered for the files of these names and a ring of these numbers, where the sound is
 -- played through pins of the kind
 abbrev pub HasEndedPlay : PinKind → Option Files → (failed emptied unasked : List ℕ → Type 0) → (gave : ℕ → Type 0)
     → (codec wav schedule : List ℕ)
-    → (periods period : ℕ) → (before after : Option (List ℕ)) → (sink_failed : Type 0) → Option Played → (status : ℕ)
-    → Type 0
-HasEndedPlay kind told failed emptied unasked gave codec wav name periods period before after sink_failed play status =
+    → (periods period : ℕ) → (before after : Option (List ℕ)) → (sink_failed : Type 0) → Option Played
+    → Option Captured → (status : ℕ) → Type 0
+HasEndedPlay kind told failed emptied unasked gave codec wav name periods period before after sink_failed play capture
+    status =
     HasEndedWith (PlayAnswers kind told failed emptied unasked gave codec wav name periods period) before after
-    sink_failed play status
+    sink_failed play capture status

@@ -4,7 +4,7 @@ use Rattle.stream_format.specs.declared.format.Format.{Format}
 use Rattle.stream_format.specs.Cadence.{hertz}
 use Rattle.codec_graph.specs.declared.pin_kind.PinKind.{PinKind}
 use Rattle.codec_graph.specs.declared.pin_kind.PinKind.TheVariants.{Analog, Digital}
-use Rattle.program_words.specs.Asked.{Asked, route, walk, play, make, spdif, bits_of, request_of}
+use Rattle.program_words.specs.Asked.{Asked, route, walk, play, make, spdif, capture, bits_of, request_of}
 
 -- the words are those of no command
 abbrev pub IsNoCommand : List (List ℕ) → Type 0
@@ -28,6 +28,12 @@ IsPlayOf words codec wav schedule periods period = request_of words ≡ Some (pl
 abbrev pub IsSpdifOf : List (List ℕ) → (codec wav schedule : List ℕ) → (periods period : ℕ) → Type 0
 IsSpdifOf words codec wav schedule periods period = request_of words ≡ Some (spdif codec wav schedule periods period)
 
+-- the words ask for a capture of the sound of the second file, through the input of the codecs of the first, by the
+-- schedule of the third, and a ring of these numbers
+abbrev pub IsCaptureOf : List (List ℕ) → (codec wav schedule : List ℕ) → (periods period : ℕ) → Type 0
+IsCaptureOf words codec wav schedule periods period =
+    request_of words ≡ Some (capture codec wav schedule periods period)
+
 -- the command that plays through pins of a kind
 abbrev pub sound_asked : PinKind → (codec wav schedule : List ℕ) → (periods period : ℕ) → Asked
 sound_asked Analog codec wav schedule periods period = play codec wav schedule periods period
@@ -46,6 +52,7 @@ files_of (walk codec schedule) = codec ∷ schedule ∷ []
 files_of (play codec wav schedule periods period) = codec ∷ wav ∷ schedule ∷ []
 files_of (make number) = []
 files_of (spdif codec wav schedule periods period) = codec ∷ wav ∷ schedule ∷ []
+files_of (capture codec wav schedule periods period) = codec ∷ wav ∷ schedule ∷ []
 
 abbrev pub files_asked : Option Asked → List (List ℕ)
 files_asked None = []
@@ -66,6 +73,7 @@ codec_of (walk codec schedule) = Some codec
 codec_of (play codec wav schedule periods period) = Some codec
 codec_of (make number) = None
 codec_of (spdif codec wav schedule periods period) = Some codec
+codec_of (capture codec wav schedule periods period) = Some codec
 
 -- the words name a codec file
 abbrev pub NamesCodecFile : List (List ℕ) → List ℕ → Type 0

@@ -6,10 +6,12 @@ use Rattle.codec_graph.specs.declared.pin_kind.PinKind.{PinKind}
 use Rattle.codec_graph.specs.declared.pin_kind.PinKind.TheVariants.{Analog, Digital}
 use Rattle.route_planner.specs.declared.routes.Plan.{Plan}
 use Rattle.hda_files.specs.declared.machine.Machine.{Machine}
+use Rattle.hda_files.specs.declared.machine.CodecFile.{CodecFile}
 use Rattle.hda_outside.specs.Shelf.{Files}
 use Rattle.schedule_reader.specs.declared.schedule.Schedule.{Schedule}
 use Rattle.period_writer.specs.declared.geometry.GeometryFault.{GeometryFault}
 use Rattle.wav_reader.specs.declared.opened.WavHead.{WavHead}
+use Rattle.wav_reader.specs.declared.wav.Wav.{Wav}
 use Rattle.sound_report.specs.declared.played.Played.{Played}
 use Rattle.sound_report.specs.declared.played.CutLine.{CutLine}
 use Rattle.sound_report.specs.declared.played.CutLine.TheVariants as cuts
@@ -17,12 +19,14 @@ use Rattle.sound_report.specs.declared.status.Status.TheVariants.{Done, WordsRef
 use Rattle.sound_report.specs.declared.status.Status.TheVariants.{ScheduleRefused, NothingRouted, Unanswered, Late}
 use Rattle.sound_report.specs.declared.status.Status.TheVariants.{ScheduleEnded, GeometryRefused, WavShrank}
 use Rattle.sound_report.specs.Statuses.{number_of}
-use Rattle.hda_program.specs.Asks.{Names, NamesCodecFile, IsRouteOf, IsWalkOf, IsSoundOf, IsSpdifOf}
+use Rattle.hda_program.specs.Asks.{Names, NamesCodecFile, IsCaptureOf, IsRouteOf, IsWalkOf, IsSoundOf, IsSpdifOf}
+use Rattle.hda_program.specs.Given.{IsGivenOf, IsGivenRefused}
 use Rattle.program_runs.specs.Walks.{walk_format}
 use Rattle.hda_program.specs.Files.{IsMachineOf, IsHeadOf, IsScheduleOf, IsCodecRefused, IsWavRefused}
 use Rattle.hda_program.specs.Files.{IsScheduleRefused}
 use Rattle.hda_program.specs.Pins.{AreFewPins, most_pins, pins_among}
-use Rattle.hda_program.specs.Rings.{IsBadRing}
+use Rattle.hda_program.specs.Rings.{IsBadRing, IsBadRingIn}
+use Rattle.program_captures.specs.Inputs.{HasInputPin}
 use Rattle.program_runs.specs.Outputs.{HavePlansOf}
 use Rattle.driver_agenda.specs.Planned.{have_route}
 
@@ -66,12 +70,24 @@ pub record WantsSound (kind : PinKind) (told : Option Files) (words : List (List
   pub asks : IsSoundOf kind words codec_name wav_name schedule_name periods period
   pub wav_file : IsHeadOf told wav_name head
 
+-- the words want a capture by the schedule of the second name, and their WAV file reads as a sound that input pins can
+-- be given
+pub record WantsCapture (told : Option Files) (words : List (List ℕ)) (codec_name schedule_name : List ℕ) : Type 0
+  where
+    pub wav_name : List ℕ
+    pub periods : ℕ
+    pub period : ℕ
+    pub sound : Wav
+    pub asks : IsCaptureOf words codec_name wav_name schedule_name periods period
+    pub wav_file : IsGivenOf told wav_name sound
+
 -- the words want a run through pins of the kind by the schedule of the second name: a walk, which sets up analog ones,
--- or a sound
+-- a sound, or a capture from an analog one
 abbrev pub WantsRun : PinKind → Option Files → List (List ℕ) → (codec_name schedule_name : List ℕ) → Type 0
 WantsRun kind told words codec_name schedule_name =
     ((kind ≡ Analog) × IsWalkOf words codec_name schedule_name)
-    ⊎ ((head : WavHead) × WantsSound kind told words codec_name schedule_name head)
+    ⊎ (((head : WavHead) × WantsSound kind told words codec_name schedule_name head)
+    ⊎ ((kind ≡ Analog) × WantsCapture told words codec_name schedule_name))
 
 -- the words want plans of the pins of the kind of the codec file of this name, for this format: a sound for its own
 abbrev pub WantsPlans : PinKind → Option Files → List (List ℕ) → (codec_name : List ℕ) → Format → Type 0
@@ -96,8 +112,22 @@ pub record HasBadWav (told : Option Files) (words : List (List ℕ)) : Type 0 wh
   pub pins : AreFewPins kind machine.codecs
   pub refused : IsWavRefused told wav_name text
 
--- the words name a codec file that reads as a machine, for a sound a WAV file that says it, and a schedule that is too
--- long, or whose bytes read as a fault
+-- the words ask for a capture, and name a codec file that reads as a machine, and a WAV file that is too long, or whose
+-- bytes read as a fault or as a sound of other than two channels
+pub record HasBadGiven (told : Option Files) (words : List (List ℕ)) : Type 0 where
+  pub codec_name : List ℕ
+  pub wav_name : List ℕ
+  pub schedule_name : List ℕ
+  pub periods : ℕ
+  pub period : ℕ
+  pub machine : Machine
+  pub text : List ℕ
+  pub asks : IsCaptureOf words codec_name wav_name schedule_name periods period
+  pub codec_file : IsMachineOf told codec_name machine
+  pub refused : IsGivenRefused told wav_name text
+
+-- the words name a codec file that reads as a machine, for a sound or a capture a WAV file that is good, and a schedule
+-- that is too long, or whose bytes read as a fault
 pub record HasBadSchedule (told : Option Files) (words : List (List ℕ)) : Type 0 where
   pub kind : PinKind
   pub codec_name : List ℕ
@@ -129,6 +159,24 @@ pub record HasBadRing (told : Option Files) (words : List (List ℕ)) : Type 0 w
   pub schedule_file : IsScheduleOf told schedule_name schedule
   pub refused : IsBadRing periods period machine head fault
 
+-- the words ask for a capture, and name files that read as a machine, a sound and a schedule, and the ring of their
+-- numbers has a fault
+pub record HasBadRecordingRing (told : Option Files) (words : List (List ℕ)) : Type 0 where
+  pub codec_name : List ℕ
+  pub wav_name : List ℕ
+  pub schedule_name : List ℕ
+  pub periods : ℕ
+  pub period : ℕ
+  pub machine : Machine
+  pub sound : Wav
+  pub schedule : Schedule
+  pub fault : GeometryFault
+  pub asks : IsCaptureOf words codec_name wav_name schedule_name periods period
+  pub codec_file : IsMachineOf told codec_name machine
+  pub wav_file : IsGivenOf told wav_name sound
+  pub schedule_file : IsScheduleOf told schedule_name schedule
+  pub refused : IsBadRingIn periods period machine sound.format fault
+
 -- what plans come to
 pub data Routing : Type 0 where
   -- some pin has a route
@@ -152,6 +200,26 @@ pub record HasPlanned (told : Option Files) (words : List (List ℕ)) (routing :
   pub pins : AreFewPins kind machine.codecs
   pub planned : HavePlansOf kind format machine.codecs plans
   pub routed : IsRouting routing plans
+
+-- some codec of a machine has an input in the format: some candidate pin of it has an admissible path
+abbrev pub HasSomeInput : Format → List CodecFile → Type 0
+HasSomeInput format files = (file : CodecFile) × Contains files file × HasInputPin format file
+
+-- the words ask for a capture, and name files that read as a machine and a sound, and this holds of the inputs of the
+-- machine in the sound's format
+pub record HasPlannedInput (told : Option Files) (words : List (List ℕ)) (IsPlanned : Format → List CodecFile → Type 0)
+    : Type 0 where
+  pub codec_name : List ℕ
+  pub wav_name : List ℕ
+  pub schedule_name : List ℕ
+  pub periods : ℕ
+  pub period : ℕ
+  pub machine : Machine
+  pub sound : Wav
+  pub asks : IsCaptureOf words codec_name wav_name schedule_name periods period
+  pub codec_file : IsMachineOf told codec_name machine
+  pub wav_file : IsGivenOf told wav_name sound
+  pub planned : IsPlanned sound.format machine.codecs
 
 -- a status at which no run was made
 abbrev pub IsRunless : ℕ → Type 0

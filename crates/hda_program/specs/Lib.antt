@@ -5,11 +5,14 @@ pub mod MadeEnds
 pub mod Made
 -- what the files come to, and what private functions promise one another of them
 pub mod Files
+pub mod Given
 pub mod Pins
 pub mod Rings
 pub mod Served
 pub mod Playing
 pub mod PlayedFiles
+pub mod Capturing
+pub mod CaptureAnswers
 pub mod Answers
 pub mod Causes
 pub mod Promises

@@ -1,5 +1,5 @@
--- What a command comes to: a status and a text, and the run of the driver that it made, if it made one. This project's
--- own.
+-- What a command comes to: a status and a text, and the run of the driver or the capture that it made, if it made one.
+-- This project's own.
 use Rattle.std.specs.Prelude.{ℕ, List, ◌++◌, string_bytes, Option, Some, None, Result, Ok, Err}
 use Rattle.route_planner.specs.declared.routes.Plan.{Plan}
 use Rattle.hda_files.specs.declared.machine.CodecFile.{CodecFile}
@@ -10,6 +10,8 @@ use Rattle.sound_report.specs.declared.played.PlayFault.{PlayFault}
 use Rattle.sound_report.specs.declared.played.PlayFault.TheVariants as fault
 use Rattle.sound_report.specs.declared.played.CutLine.{CutLine}
 use Rattle.sound_report.specs.declared.played.CutLine.TheVariants as cuts
+use Rattle.capture_report.specs.declared.captured.Captured.{Captured}
+use Rattle.capture_report.specs.CaptureTexts.{capture_text}
 use Rattle.sound_report.specs.declared.status.Status.{Status}
 use Rattle.sound_report.specs.declared.status.Status.TheVariants.{Done, ShelfFailed, SinkFailed, NothingRouted}
 use Rattle.sound_report.specs.declared.status.Status.TheVariants.{Unanswered, Late, ScheduleEnded, OutOfMemory}
@@ -27,10 +29,11 @@ pub record Meant : Type 0 where
   pub status : Status
   pub text : List ℕ
   pub play : Option Played
+  pub capture : Option Captured
 
--- a status and a text, with no run
+-- a status and a text, with no run and no capture
 abbrev pub telling : Status → List ℕ → Meant
-telling status text = record { status = status; text = text; play = None }
+telling status text = record { status = status; text = text; play = None; capture = None }
 
 -- whether all was done, or why a run of the driver ended early
 abbrev pub fault_status : Option PlayFault → Status
@@ -57,7 +60,7 @@ written_status (Err outside.OutOfMemory) status = OutOfMemory
 
 -- a run that is told by this text
 abbrev pub run_meant : Played → (text : List ℕ) → Meant
-run_meant played text = record { status = status_of played; text = text; play = Some played }
+run_meant played text = record { status = status_of played; text = text; play = Some played; capture = None }
 
 -- a run, with its report for a text
 abbrev pub of_run : Played → Meant
@@ -66,6 +69,18 @@ of_run played = run_meant played (text_of played)
 -- a run of the inputs that are made of a number, with its line for a text
 abbrev pub of_made : (number : ℕ) → Played → Meant
 of_made number played = run_meant played (made_line number (number_of (status_of played)) played)
+
+-- a capture, with its text. Its sound was read before, so that no cut comes first
+abbrev pub capture_status : Captured → Status
+capture_status captured = fault_status captured.fault
+
+abbrev pub of_capture : Captured → Meant
+of_capture captured = record {
+  status = capture_status captured;
+  text = capture_text captured;
+  play = None;
+  capture = Some captured;
+}
 
 -- plans of which none has a route, and a line that says so
 abbrev pub unrouted : List CodecFile → List Plan → Meant
@@ -79,3 +94,4 @@ abbrev pub answer_meant : Answer → Meant
 answer_meant (answer.Message message) = message_meant message
 answer_meant (answer.Run played) = of_run played
 answer_meant (answer.Made number played) = of_made number played
+answer_meant (answer.Captured captured) = of_capture captured

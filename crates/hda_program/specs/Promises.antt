@@ -1,5 +1,5 @@
--- The promises of `walk`, of `play`, of `spdif` and of `make`: what the run is that is given, part by part, and the
--- text that was written of it. This project's own.
+-- The promises of `walk`, of `play`, of `spdif`, of `make` and of `capture`: what the run or the capture is that is
+-- given, part by part, and the text that was written of it. This project's own.
 use Rattle.std.specs.Prelude.{◌≡◌, ◌⊎◌, ℕ, true, List, Option}
 use Rattle.codec_graph.specs.declared.pin_kind.PinKind.{PinKind}
 use Rattle.route_planner.specs.declared.routes.Plan.{Plan}
@@ -7,14 +7,16 @@ use Rattle.hda_files.specs.declared.machine.Machine.{Machine}
 use Rattle.hda_outside.specs.Shelf.{Files}
 use Rattle.schedule_reader.specs.declared.schedule.Schedule.{Schedule}
 use Rattle.sound_report.specs.declared.played.Played.{Played}
-use Rattle.hda_program.specs.Asks.{IsWalkOf, IsSoundOf}
+use Rattle.capture_report.specs.declared.captured.Captured.{Captured}
+use Rattle.hda_program.specs.Asks.{IsCaptureOf, IsWalkOf, IsSoundOf}
+use Rattle.hda_program.specs.CaptureAnswers.{HasCapturedFiles}
 use Rattle.program_runs.specs.Walks.{walk_format, IsWalked}
 use Rattle.hda_program.specs.Files.{IsMachineOf, IsScheduleOf}
 use Rattle.hda_program.specs.PlayedFiles.{HasPlayedFiles}
 use Rattle.hda_program.specs.Answers.{HasWritten}
 use Rattle.sound_report.specs.Texts.{text_of}
 use Rattle.hda_program.specs.Made.{HasMadeRun}
-use Rattle.hda_program.specs.Meanings.{run_meant}
+use Rattle.hda_program.specs.Meanings.{of_capture, run_meant}
 use Rattle.laws_start.specs.Tasks.{HavePlans}
 use Rattle.driver_agenda.specs.Planned.{have_route}
 
@@ -72,3 +74,20 @@ pub record KeepsPromise (IsRun : Played → (text : List ℕ) → Type 0) (befor
   pub run_text : List ℕ
   pub run : IsRun played run_text
   pub text : HasWritten before after sink_failed (run_meant played run_text) status
+
+-- the capture is that for which the words ask: of the files that they name, and the ring of their numbers
+pub record HasCaptured (told : Option Files) (words : List (List ℕ)) (captured : Captured) : Type 0 where
+  pub codec_name : List ℕ
+  pub wav_name : List ℕ
+  pub schedule_name : List ℕ
+  pub periods : ℕ
+  pub period : ℕ
+  pub asks : IsCaptureOf words codec_name wav_name schedule_name periods period
+  pub files : HasCapturedFiles told codec_name wav_name schedule_name periods period captured
+
+-- the promise of a capture: it is the one that was asked for, and its text was written whole, with the status of its
+-- end, or its front at the status of a fault of the sink or of want of memory
+pub record KeepsCapture (IsRun : Captured → Type 0) (before after : Option (List ℕ)) (sink_failed : Type 0)
+    (status : ℕ) (captured : Captured) : Type 0 where
+  pub run : IsRun captured
+  pub text : HasWritten before after sink_failed (of_capture captured) status

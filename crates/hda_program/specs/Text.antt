@@ -26,4 +26,5 @@ usage_line =
     codes "usage: hda_play route CODEC [--rate R] [--channels C] [--bits B] | walk CODEC SCHEDULE"
     ++ codes " | play CODEC WAV SCHEDULE [--periods K] [--period M] | make N"
     ++ codes " | spdif CODEC WAV SCHEDULE [--periods K] [--period M]"
+    ++ codes " | capture CODEC WAV SCHEDULE [--periods K] [--period M]"
     ++ newline

@@ -6,11 +6,13 @@ ghost use Rattle.hda_program.specs.Asks.{AsksForItsFiles, files_of};
 ghost use Rattle.hda_program.specs.Meanings.{answer_meant};
 ghost use Rattle.hda_program.specs.Files.{EmptiedUnder, FailedUnder, GivenAtMost, UnaskedUnder};
 
+use crate::capture::answer_capture;
 use crate::make::answer_make;
 use crate::message::{Message, words_refused};
 use crate::play::answer_play;
 use crate::route::answer_route;
 use crate::walk::answer_walk;
+use capture_report::Captured;
 use codec_graph::PinKind;
 use hda_outside::Shelf;
 use program_words::{Request, WordsFault, read_words};
@@ -26,6 +28,8 @@ pub enum Answer {
     Run(Played),
     /// A run of the inputs that are made of a number, whose line is the text.
     Made(u16, Played),
+    /// A capture, whose text is the text.
+    Captured(Captured),
 }
 
 /// What the program answers to its words.
@@ -55,7 +59,7 @@ pub(crate) fn answer_words<S: Shelf>(
     }
 }
 
-/// What the program answers to a request, before anything is written: a message, or a run of the driver.
+/// What the program answers to a request, before anything is written: a message, a run of the driver, or a capture.
 ///
 /// # Errors
 /// Want of memory.
@@ -116,5 +120,12 @@ pub fn answer_request<S: Shelf>(
             periods,
             period,
         ),
+        Request::Capture {
+            codec,
+            wav,
+            schedule,
+            periods,
+            period,
+        } => answer_capture(alloc, shelf, codec, wav, schedule, periods, period),
     }
 }

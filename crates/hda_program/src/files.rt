@@ -48,7 +48,7 @@ pub fn play_files<S: Shelf, K: Sink>(
         (UnaskedUnder (S.asked shelf.old) (S.asked shelf.new))
         (GivenAtMost (S.given shelf.old) (S.given shelf.new))
         codec.now wav.now schedule.now periods period (K.taken out.old) (K.taken out.new)
-        (Rose (K.faults out.old) (K.faults out.new)) result.play result.status }
+        (Rose (K.faults out.old) (K.faults out.new)) result.play result.capture result.status }
 
     // The promise of `play`: the run that is given is that of these files and this ring, few bytes were read for it,
     // and its report was written.
@@ -62,6 +62,7 @@ pub fn play_files<S: Shelf, K: Sink>(
     // When a run is given.
     ensures runless { IsRunless result.status → IsNone result.play }
     ensures runs { IsOfSound result.status → IsSome result.play }
+    ensures capture { IsNone result.capture }
 
     // Where the reading of the sound was cut. A shelf that tells its files lets none get shorter.
     ensures unread_run { result.status ≡ number_of Status.ShelfFailed
@@ -129,6 +130,7 @@ pub fn play_files<S: Shelf, K: Sink>(
         Err(_) => Ended {
             status: Status::OutOfMemory.number(),
             play: None,
+            capture: None,
         },
     }
 }

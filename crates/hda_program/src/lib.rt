@@ -1,10 +1,13 @@
 //! The program over any shelf and sink: it plans the routes of a codec's output pins, drives a machine until its codecs
-//! are set up, and plays sound through its analog or its digital pins. This project's own.
+//! are set up, plays sound through its analog or its digital pins, and records what its input pins are given. This
+//! project's own.
 #![tactic(auto)]
 
 mod answer;
+mod capture;
 mod codec;
 mod files;
+mod given;
 mod made_ends;
 mod make;
 mod message;
@@ -22,5 +25,5 @@ pub use codec::read_codec_file;
 pub use files::play_files;
 pub use message::Message;
 pub use plans::plans_of;
-pub use run::{Ended, hda_main, status_of, write_text, written_status};
+pub use run::{Ended, hda_main, status_of, write_captured, write_text, written_status};
 pub use sound_report::Status;

@@ -1,7 +1,7 @@
 //! Texts with a status, and the lines of refusals.
 ghost use Rattle.std.specs.Prelude.{◌≡◌, IfOk, string_bytes};
 ghost use Rattle.hda_program.specs.Meanings.{telling, message_meant};
-ghost use Rattle.hda_program.specs.Text.{codec_refused_line, geometry_refused_line, refused_line};
+ghost use Rattle.hda_program.specs.Text.{codec_refused_line, geometry_refused_line, nothing_routed_line, refused_line};
 ghost use Rattle.hda_program.specs.Text.{schedule_refused_line, usage_line, wav_refused_line};
 ghost use Rattle.sound_report.specs.Texts.{unreadable_line};
 
@@ -10,7 +10,7 @@ use std::alloc::{AllocError, Global};
 
 /// The line for words that are no command.
 const USAGE: &str =
-    "usage: hda_play route CODEC [--rate R] [--channels C] [--bits B] | walk CODEC SCHEDULE | play CODEC WAV SCHEDULE [--periods K] [--period M] | make N | spdif CODEC WAV SCHEDULE [--periods K] [--period M]\n";
+    "usage: hda_play route CODEC [--rate R] [--channels C] [--bits B] | walk CODEC SCHEDULE | play CODEC WAV SCHEDULE [--periods K] [--period M] | make N | spdif CODEC WAV SCHEDULE [--periods K] [--period M] | capture CODEC WAV SCHEDULE [--periods K] [--period M]\n";
 
 /// A text, and the status with which the program ends that writes it. This project's own.
 #[derive(Drop)]
@@ -31,6 +31,19 @@ pub(crate) fn words_refused(alloc: Global) -> Result<Message, AllocError>
     Ok(Message {
         status: Status::WordsRefused,
         text: String::from_str(alloc, USAGE)?,
+    })
+}
+
+/// No codec has an input.
+///
+/// # Errors
+/// Want of memory.
+pub(crate) fn no_input(alloc: Global) -> Result<Message, AllocError>
+    ensures { IfOk result (λ message. message_meant message ≡ telling Status.NothingRouted nothing_routed_line) }
+{
+    Ok(Message {
+        status: Status::NothingRouted,
+        text: String::from_str(alloc, "nothing routed\n")?,
     })
 }
 

@@ -6,26 +6,30 @@ ghost use Rattle.hda_outside.specs.Counts.{Rose};
 ghost use Rattle.sound_report.specs.Statuses.{number_of};
 ghost use Rattle.hda_program.specs.Answers.{HasEnded, HasWritten};
 ghost use Rattle.program_words.specs.Asked.{request_of};
-ghost use Rattle.hda_program.specs.Asks.{AsksForItsFiles, IsNoCommand, IsPlayOf, IsRouteOf, IsSpdifOf, IsWalkOf};
-ghost use Rattle.hda_program.specs.Asks.{files_asked};
+ghost use Rattle.hda_program.specs.Asks.{AsksForItsFiles, IsCaptureOf, IsNoCommand, IsPlayOf, IsRouteOf, IsSpdifOf};
+ghost use Rattle.hda_program.specs.Asks.{IsWalkOf, files_asked};
 ghost use Rattle.hda_program.specs.Causes.{HasBadCodecFile, HasBadRing, HasBadSchedule, HasBadWav, HasPlanned};
-ghost use Rattle.hda_program.specs.Causes.{HasManyDigitalPins};
+ghost use Rattle.hda_program.specs.Causes.{HasBadGiven, HasBadRecordingRing, HasManyDigitalPins, HasPlannedInput};
+ghost use Rattle.hda_program.specs.Causes.{HasSomeInput, IsOfPlay};
 ghost use Rattle.hda_program.specs.Causes.{SomeRoute, NoRoute};
 ghost use Rattle.hda_program.specs.Causes.{HasStoppedUnread, HasUnreadFile, IsOfSound, IsOfWalk, IsRunless};
 ghost use Rattle.hda_program.specs.Causes.{OfItsWav, WasShortened, WasUnread};
 ghost use Rattle.hda_program.specs.Made.{IsMakeOf, IsOfMade, WantsMade};
-ghost use Rattle.hda_program.specs.Promises.{HasRun, KeepsPromise};
-ghost use Rattle.hda_program.specs.Complete.{CanPlay, CanRoute, CanWalk, HasPlayedOn, HasRoutes, HasWalkedOn};
-ghost use Rattle.hda_program.specs.Meanings.{answer_meant, fault_status, of_made, of_run, status_of, telling};
-ghost use Rattle.hda_program.specs.Meanings.{written_status};
+ghost use Rattle.hda_program.specs.Promises.{HasCaptured, HasRun, KeepsCapture, KeepsPromise};
+ghost use Rattle.hda_program.specs.Complete.{CanCapture, CanPlay, CanRoute, CanWalk, HasPlayedOn, HasRoutes};
+ghost use Rattle.hda_program.specs.Complete.{HasWalkedOn};
+ghost use Rattle.hda_program.specs.Meanings.{answer_meant, capture_status, fault_status, of_capture, of_made, of_run};
+ghost use Rattle.hda_program.specs.Meanings.{status_of, telling, written_status};
 ghost use Rattle.hda_program.specs.Files.{EmptiedUnder, FailedUnder, GivenAtMost, UnaskedUnder};
 ghost use Rattle.period_writer.specs.declared.geometry.Geometry.{Geometry};
+ghost use Rattle.program_captures.specs.Inputs.{HasNoInput};
 ghost use Rattle.program_runs.specs.Walks.{walk_format};
 ghost use Rattle.program_runs.specs.Served.{ServesBringUp, ServesPlay};
 ghost use Rattle.hda_program.specs.Rings.{IsRingOf};
 ghost use Rattle.hda_program.specs.Served.{EndsSo, PlaysSo, PlaysWhole, WalksSo};
 
 use crate::answer::{Answer, answer_words};
+use capture_report::{Captured, write_capture};
 use hda_outside::{Fault, Shelf, Sink, write_all};
 use laws_start::read_machines_are_whole;
 use program_runs::{made_line, plays_all_so, plays_end_so, walks_end_so};
@@ -39,6 +43,8 @@ pub struct Ended {
     pub status: u8,
     /// The run of the driver, for commands that make one.
     pub play: Option<Played>,
+    /// The capture, for the command that makes one.
+    pub capture: Option<Captured>,
 }
 
 /// Runs the command of these words, those after the program's name, and writes its text.
@@ -50,6 +56,11 @@ pub struct Ended {
 /// also where its text could not be written. Where the files and the ring are good, some pin has a route and neither
 /// shelf nor sink fails, nothing is refused. `play` and `spdif` read the sound while it is played; where its reading is
 /// cut the run goes on over what was read.
+///
+/// `capture` gives the sound of the WAV file to every input pin, and records from the first codec of which some input
+/// pin has a path. It reads the WAV file whole before, and refuses a sound of other than two channels, where one that
+/// is doubled has two. It ends with 0 where all frames were recorded, with 8 where no codec has an input, and else as
+/// `play` does. It gives its capture, also where its text could not be written.
 pub fn hda_main<S: Shelf, K: Sink>(
     alloc: Global,
     words: &[String],
@@ -62,7 +73,7 @@ pub fn hda_main<S: Shelf, K: Sink>(
         (UnaskedUnder (S.asked shelf.old) (S.asked shelf.new))
         (GivenAtMost (S.given shelf.old) (S.given shelf.new))
         (map string_bytes words.now) (K.taken out.old) (K.taken out.new) (Rose (K.faults out.old) (K.faults out.new))
-        result.play result.status }
+        result.play result.capture result.status }
 
     // The promise of `walk`, of `play`, of `spdif` and of `make`: the run that is given is the one that the words ask
     // for, few bytes were read for a sound, and its report was written, or its line.
@@ -71,6 +82,11 @@ pub fn hda_main<S: Shelf, K: Sink>(
         (EmptiedUnder (S.empties shelf.old) (S.empties shelf.new))
         (GivenAtMost (S.given shelf.old) (S.given shelf.new))
         (map string_bytes words.now))
+        (K.taken out.old) (K.taken out.new) (Rose (K.faults out.old) (K.faults out.new)) result.status) }
+
+    // The promise of `capture`: the capture that is given is the one that the words ask for, and its text was written.
+    ensures capture_promise { IfSome result.capture (KeepsCapture
+        (HasCaptured (S.told shelf.old) (map string_bytes words.now))
         (K.taken out.old) (K.taken out.new) (Rose (K.faults out.old) (K.faults out.new)) result.status) }
 
     // When a run is given.
@@ -87,6 +103,15 @@ pub fn hda_main<S: Shelf, K: Sink>(
     ensures spdif_runs { (codec wav schedule : List ℕ) (periods period : ℕ)
         → IsSpdifOf (map string_bytes words.now) codec wav schedule periods period
         → IsOfSound result.status → IsSome result.play }
+
+    // When a capture is given.
+    ensures capture_runless { IsRunless result.status → IsNone result.capture }
+    ensures capture_unread { result.status ≡ number_of Status.ShelfFailed → IsNone result.capture }
+    ensures capture_runs { (codec wav schedule : List ℕ) (periods period : ℕ)
+        → IsCaptureOf (map string_bytes words.now) codec wav schedule periods period
+        → IsOfPlay result.status → IsSome result.capture }
+    ensures capture_plays_nothing { (codec wav schedule : List ℕ) (periods period : ℕ)
+        → IsCaptureOf (map string_bytes words.now) codec wav schedule periods period → IsNone result.play }
 
     // Where the reading of a sound was cut. A shelf that tells its files lets none get shorter.
     ensures unread_run { result.status ≡ number_of Status.ShelfFailed → IfSome result.play (λ played.
@@ -110,15 +135,20 @@ pub fn hda_main<S: Shelf, K: Sink>(
         → HasBadCodecFile (S.told shelf.old) (map string_bytes words.now)
         ⊎ HasManyDigitalPins (S.told shelf.old) (map string_bytes words.now) }
     ensures refused_wav { result.status ≡ number_of Status.WavRefused
-        → HasBadWav (S.told shelf.old) (map string_bytes words.now) }
+        → HasBadWav (S.told shelf.old) (map string_bytes words.now)
+        ⊎ HasBadGiven (S.told shelf.old) (map string_bytes words.now) }
     ensures refused_schedule { result.status ≡ number_of Status.ScheduleRefused
         → HasBadSchedule (S.told shelf.old) (map string_bytes words.now) }
     ensures refused_geometry { result.status ≡ number_of Status.GeometryRefused
-        → HasBadRing (S.told shelf.old) (map string_bytes words.now) }
-    ensures routed { result.status ≡ number_of Status.Done → HasPlanned (S.told shelf.old) (map string_bytes words.now)
-        SomeRoute ⊎ WantsMade (map string_bytes words.now) }
+        → HasBadRing (S.told shelf.old) (map string_bytes words.now)
+        ⊎ HasBadRecordingRing (S.told shelf.old) (map string_bytes words.now) }
+    ensures routed { result.status ≡ number_of Status.Done
+        → (HasPlanned (S.told shelf.old) (map string_bytes words.now) SomeRoute
+        ⊎ WantsMade (map string_bytes words.now))
+        ⊎ HasPlannedInput (S.told shelf.old) (map string_bytes words.now) HasSomeInput }
     ensures nothing_routed { result.status ≡ number_of Status.NothingRouted
-        → HasPlanned (S.told shelf.old) (map string_bytes words.now) NoRoute }
+        → HasPlanned (S.told shelf.old) (map string_bytes words.now) NoRoute
+        ⊎ HasPlannedInput (S.told shelf.old) (map string_bytes words.now) HasNoInput }
     ensures unwritten { result.status ≡ number_of Status.SinkFailed → Rose (K.faults out.old) (K.faults out.new) }
 
     // Good files and a good ring are not refused.
@@ -139,6 +169,12 @@ pub fn hda_main<S: Shelf, K: Sink>(
         schedule periods period
         → (Rose (K.faults out.old) (K.faults out.new) → ⊥) → HasPlayedOn result.status }
 
+    ensures capture_completes { (codec wav schedule : List ℕ) (periods period : ℕ)
+        → IsCaptureOf (map string_bytes words.now) codec wav schedule periods period
+        → CanCapture (S.told shelf.old) (FailedUnder (S.faults shelf.old) (S.faults shelf.new)) codec wav schedule
+        periods period
+        → (Rose (K.faults out.old) (K.faults out.new) → ⊥) → HasPlayedOn result.status }
+
     // A run is given then, also where its report was not written.
     ensures walk_given { (codec schedule : List ℕ) → IsWalkOf (map string_bytes words.now) codec schedule
         → CanWalk (S.told shelf.old) (FailedUnder (S.faults shelf.old) (S.faults shelf.new)) codec schedule
@@ -153,6 +189,12 @@ pub fn hda_main<S: Shelf, K: Sink>(
         → CanPlay kind.Digital (S.told shelf.old) (FailedUnder (S.faults shelf.old) (S.faults shelf.new)) codec wav
         schedule periods period
         → result.status ≢ number_of Status.OutOfMemory → IsSome result.play }
+
+    ensures capture_given { (codec wav schedule : List ℕ) (periods period : ℕ)
+        → IsCaptureOf (map string_bytes words.now) codec wav schedule periods period
+        → CanCapture (S.told shelf.old) (FailedUnder (S.faults shelf.old) (S.faults shelf.new)) codec wav schedule
+        periods period
+        → result.status ≢ number_of Status.OutOfMemory → IsSome result.capture }
 
     // What is made of a number is played to its end.
     ensures make_ends { (number : ℕ) → IsMakeOf (map string_bytes words.now) number
@@ -214,29 +256,39 @@ pub fn hda_main<S: Shelf, K: Sink>(
         Err(_) => Ended {
             status: Status::OutOfMemory.number(),
             play: None,
+            capture: None,
         },
     }
 }
 
-/// Writes the text of an answer, and gives its status and its run.
+/// Writes the text of an answer, and gives its status and its run or its capture.
 pub(crate) fn write_answer<K: Sink>(alloc: Global, out: &mut K, answer: Answer) -> Ended
     ensures written { HasWritten (K.taken out.old) (K.taken out.new) (Rose (K.faults out.old) (K.faults out.new))
         (answer_meant answer) result.status }
     ensures play { result.play ≡ (answer_meant answer).play }
+    ensures capture { result.capture ≡ (answer_meant answer).capture }
     ensures later { K.faults out.old ≤ K.faults out.new }
 {
     match answer {
         Answer::Message(message) => Ended {
             status: write_text(alloc, out, message.text.as_bytes(), message.status).number(),
             play: None,
+            capture: None,
         },
         Answer::Run(played) => Ended {
             status: write_run(alloc, out, &played).number(),
             play: Some(played),
+            capture: None,
         },
         Answer::Made(number, made) => Ended {
             status: write_made(alloc, out, number, &made).number(),
             play: Some(made),
+            capture: None,
+        },
+        Answer::Captured(captured) => Ended {
+            status: write_captured(alloc, out, &captured).number(),
+            play: None,
+            capture: Some(captured),
         },
     }
 }
@@ -272,6 +324,18 @@ fn write_made<K: Sink>(alloc: Global, out: &mut K, number: u16, played: &Played)
     }
 }
 
+/// Writes the text of a capture, and gives the status of its end, or that of the fault.
+pub fn write_captured<K: Sink>(alloc: Global, out: &mut K, captured: &Captured) -> Status
+    ensures written { HasWritten (K.taken out.old) (K.taken out.new) (Rose (K.faults out.old) (K.faults out.new))
+        (of_capture captured.now) (number_of result) }
+    ensures later { K.faults out.old ≤ K.faults out.new }
+{
+    written_status(
+        write_capture(alloc, out, captured),
+        capture_status(captured),
+    )
+}
+
 /// The status of a text that was written so: its own, or that of the fault.
 pub fn written_status(written: Result<(), Fault>, status: Status) -> Status
     ensures { result ≡ written_status written status }
@@ -292,6 +356,13 @@ pub fn status_of(played: &Played) -> Status
         Some(CutLine::Short(_)) => Status::WavShrank,
         None => fault_status(played.fault),
     }
+}
+
+/// The status of a capture.
+fn capture_status(captured: &Captured) -> Status
+    ensures { result ≡ capture_status captured.now }
+{
+    fault_status(captured.fault)
 }
 
 /// The status of a run that ended so.

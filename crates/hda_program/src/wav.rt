@@ -36,8 +36,11 @@ pub(crate) fn open_wav_file<S: Shelf>(
     }
 }
 
-/// The WAV file has this fault before its sound.
-fn faulty(alloc: Global, fault: WavFault) -> Result<Message, AllocError>
+/// The WAV file has this fault.
+///
+/// # Errors
+/// Want of memory.
+pub(crate) fn faulty(alloc: Global, fault: WavFault) -> Result<Message, AllocError>
     ensures { IfOk result (λ message.
         message_meant message ≡ telling Status.WavRefused (wav_refused_line (wav.wav_fault_text fault))) }
 {

@@ -6,12 +6,12 @@ use Rattle.std.specs.Str.{bytes_eq}
 use Rattle.std.proofs.lemmas.Slice.Eq.{bytes_eq-Decides}
 use Rattle.clap.specs.declared.parser.matches.ArgMatches.{ArgMatches}
 use Rattle.program_words.specs.Numbers.{Numbers, if_taken, is_taken, number_written}
-use Rattle.program_words.specs.Commands.{CommandGrammar, OptionGrammar, make_grammar, option_names, play_grammar, route_grammar, spdif_grammar, walk_grammar}
+use Rattle.program_words.specs.Commands.{CommandGrammar, OptionGrammar, capture_grammar, make_grammar, option_names, play_grammar, route_grammar, spdif_grammar, walk_grammar}
 use Rattle.program_words.specs.Words.{Part, Word, has_single, is_among, operands_of, part_met, parts_from, parts_of, single_at, values_of, with_part, word_of}
 use Rattle.program_words.specs.Words as words
 use Rattle.program_words.specs.Asked.{grammar_named}
 use Rattle.program_words.specs.declared.table.CommandName.{CommandName}
-use Rattle.program_words.specs.declared.table.CommandName.TheVariants.{Route, Walk, Play, Make, Spdif}
+use Rattle.program_words.specs.declared.table.CommandName.TheVariants.{Route, Walk, Play, Make, Spdif, Capture}
 use Rattle.program_words.specs.Lines.{AllTaken, CommandLine, IsLineOf, command_line_of, line_of_parts, line_with, number_of, number_once, numbers_of, with_number}
 use Rattle.program_words.specs.ClapCommand.{FindsParts, HoldsParts, numbers_found, operands_id, values_found}
 
@@ -157,6 +157,9 @@ make_line ws line is = fits_of make_grammar (parts_of (option_names make_grammar
 pub spdif_line : (ws : List (List ℕ)) (line : CommandLine) → command_line_of spdif_grammar ws ≡ Some line → IsLineOf spdif_grammar line
 spdif_line ws line is = fits_of spdif_grammar (parts_of (option_names spdif_grammar) ws) line (refl, (refl, tt)) is
 
+pub capture_line : (ws : List (List ℕ)) (line : CommandLine) → command_line_of capture_grammar ws ≡ Some line → IsLineOf capture_grammar line
+capture_line ws line is = fits_of capture_grammar (parts_of (option_names capture_grammar) ws) line (refl, (refl, tt)) is
+
 -- the words after the first
 pub words_after : {X Y : Type 0} (f : X → Y) (xs : List X) → map f (take (length xs - 1) (drop 1 xs)) ≡ drop 1 (map f xs)
 words_after f xs = ap (map f) (take_all (length xs - 1) (drop 1 xs) (simp length-drop (omega arith))) ∙ sym (drop-map f 1 xs)
@@ -170,18 +173,22 @@ pub data IsCommand (grammar : CommandGrammar) : Type 0 where
   is_play : grammar ≡ play_grammar → IsCommand grammar
   is_make : grammar ≡ make_grammar → IsCommand grammar
   is_spdif : grammar ≡ spdif_grammar → IsCommand grammar
+  is_capture : grammar ≡ capture_grammar → IsCommand grammar
 
 named_first : (b : Bool) (first grammar : CommandGrammar) (others : Option CommandGrammar) → (if b then Some first else others) ≡ Some grammar
     → (first ≡ grammar) ⊎ (others ≡ Some grammar)
 named_first true first grammar others is = let same : first ≡ grammar = cc in inl same
 named_first false first grammar others is = inr is
 
--- the grammar with a name among the last one, the last two, the last three, and the last four
+-- the grammar with a name among the last one, the last two, the last three, the last four, and the last five
 last_named : List ℕ → Option CommandGrammar
-last_named name = if bytes_eq spdif_grammar.name name then Some spdif_grammar else None
+last_named name = if bytes_eq capture_grammar.name name then Some capture_grammar else None
+
+fifth_named : List ℕ → Option CommandGrammar
+fifth_named name = if bytes_eq spdif_grammar.name name then Some spdif_grammar else last_named name
 
 fourth_named : List ℕ → Option CommandGrammar
-fourth_named name = if bytes_eq make_grammar.name name then Some make_grammar else last_named name
+fourth_named name = if bytes_eq make_grammar.name name then Some make_grammar else fifth_named name
 
 third_named : List ℕ → Option CommandGrammar
 third_named name = if bytes_eq play_grammar.name name then Some play_grammar else fourth_named name
@@ -189,19 +196,24 @@ third_named name = if bytes_eq play_grammar.name name then Some play_grammar els
 later_named : List ℕ → Option CommandGrammar
 later_named name = if bytes_eq walk_grammar.name name then Some walk_grammar else third_named name
 
-named_last : (grammar : CommandGrammar) → (spdif_grammar ≡ grammar) ⊎ (None ≡ Some grammar) → IsCommand grammar
-named_last grammar (inl same) = is_spdif (sym same)
+named_last : (grammar : CommandGrammar) → (capture_grammar ≡ grammar) ⊎ (None ≡ Some grammar) → IsCommand grammar
+named_last grammar (inl same) = is_capture (sym same)
 named_last grammar (inr none) = let bad : None ≡ Some grammar = none in cc
 
-named_fourth : (name : List ℕ) (grammar : CommandGrammar) → (make_grammar ≡ grammar) ⊎ (last_named name ≡ Some grammar) → IsCommand grammar
+named_fifth : (name : List ℕ) (grammar : CommandGrammar) → (spdif_grammar ≡ grammar) ⊎ (last_named name ≡ Some grammar) → IsCommand grammar
 unfolding last_named
+named_fifth name grammar (inl same) = is_spdif (sym same)
+named_fifth name grammar (inr last) = named_last grammar (named_first (bytes_eq capture_grammar.name name) capture_grammar grammar None last)
+
+named_fourth : (name : List ℕ) (grammar : CommandGrammar) → (make_grammar ≡ grammar) ⊎ (fifth_named name ≡ Some grammar) → IsCommand grammar
+unfolding fifth_named
 named_fourth name grammar (inl same) = is_make (sym same)
-named_fourth name grammar (inr last) = named_last grammar (named_first (bytes_eq spdif_grammar.name name) spdif_grammar grammar None last)
+named_fourth name grammar (inr fifth) = named_fifth name grammar (named_first (bytes_eq spdif_grammar.name name) spdif_grammar grammar (last_named name) fifth)
 
 named_third : (name : List ℕ) (grammar : CommandGrammar) → (play_grammar ≡ grammar) ⊎ (fourth_named name ≡ Some grammar) → IsCommand grammar
 unfolding fourth_named
 named_third name grammar (inl same) = is_play (sym same)
-named_third name grammar (inr fourth) = named_fourth name grammar (named_first (bytes_eq make_grammar.name name) make_grammar grammar (last_named name) fourth)
+named_third name grammar (inr fourth) = named_fourth name grammar (named_first (bytes_eq make_grammar.name name) make_grammar grammar (fifth_named name) fourth)
 
 named_later : (name : List ℕ) (grammar : CommandGrammar) → (walk_grammar ≡ grammar) ⊎ (third_named name ≡ Some grammar) → IsCommand grammar
 unfolding third_named
@@ -215,7 +227,7 @@ named_split name grammar (inr later) = named_later name grammar (named_first (by
 
 -- a grammar that has a name is one of the table
 pub named_command : (name : List ℕ) (grammar : CommandGrammar) → grammar_named name ≡ Some grammar → IsCommand grammar
-unfolding later_named third_named fourth_named last_named
+unfolding later_named third_named fourth_named fifth_named last_named
 named_command name grammar is = named_split name grammar (named_first (bytes_eq route_grammar.name name) route_grammar grammar (later_named name) is)
 
 -- no option of the table has the name of the operands
@@ -225,6 +237,7 @@ command_apart grammar (is_walk same) = subst (λ (g : CommandGrammar). is_among 
 command_apart grammar (is_play same) = subst (λ (g : CommandGrammar). is_among (option_names g) operands_id ≡ false) (sym same) refl
 command_apart grammar (is_make same) = subst (λ (g : CommandGrammar). is_among (option_names g) operands_id ≡ false) (sym same) refl
 command_apart grammar (is_spdif same) = subst (λ (g : CommandGrammar). is_among (option_names g) operands_id ≡ false) (sym same) refl
+command_apart grammar (is_capture same) = subst (λ (g : CommandGrammar). is_among (option_names g) operands_id ≡ false) (sym same) refl
 
 -- a grammar of the table is told by its command
 other_command : {X : Type 0} (grammar other : CommandGrammar) (command : CommandName) → grammar ≡ other → grammar.command ≡ command → (other.command ≡ command → ⊥) → X
@@ -236,6 +249,7 @@ command_route grammar named (is_walk same) = other_command grammar walk_grammar 
 command_route grammar named (is_play same) = other_command grammar play_grammar Route same named (λ (e : Play ≡ Route). cc)
 command_route grammar named (is_make same) = other_command grammar make_grammar Route same named (λ (e : Make ≡ Route). cc)
 command_route grammar named (is_spdif same) = other_command grammar spdif_grammar Route same named (λ (e : Spdif ≡ Route). cc)
+command_route grammar named (is_capture same) = other_command grammar capture_grammar Route same named (λ (e : Capture ≡ Route). cc)
 
 pub command_walk : (grammar : CommandGrammar) → grammar.command ≡ Walk → IsCommand grammar → grammar ≡ walk_grammar
 command_walk grammar named (is_walk same) = same
@@ -243,6 +257,7 @@ command_walk grammar named (is_route same) = other_command grammar route_grammar
 command_walk grammar named (is_play same) = other_command grammar play_grammar Walk same named (λ (e : Play ≡ Walk). cc)
 command_walk grammar named (is_make same) = other_command grammar make_grammar Walk same named (λ (e : Make ≡ Walk). cc)
 command_walk grammar named (is_spdif same) = other_command grammar spdif_grammar Walk same named (λ (e : Spdif ≡ Walk). cc)
+command_walk grammar named (is_capture same) = other_command grammar capture_grammar Walk same named (λ (e : Capture ≡ Walk). cc)
 
 pub command_play : (grammar : CommandGrammar) → grammar.command ≡ Play → IsCommand grammar → grammar ≡ play_grammar
 command_play grammar named (is_play same) = same
@@ -250,6 +265,7 @@ command_play grammar named (is_route same) = other_command grammar route_grammar
 command_play grammar named (is_walk same) = other_command grammar walk_grammar Play same named (λ (e : Walk ≡ Play). cc)
 command_play grammar named (is_make same) = other_command grammar make_grammar Play same named (λ (e : Make ≡ Play). cc)
 command_play grammar named (is_spdif same) = other_command grammar spdif_grammar Play same named (λ (e : Spdif ≡ Play). cc)
+command_play grammar named (is_capture same) = other_command grammar capture_grammar Play same named (λ (e : Capture ≡ Play). cc)
 
 pub command_make : (grammar : CommandGrammar) → grammar.command ≡ Make → IsCommand grammar → grammar ≡ make_grammar
 command_make grammar named (is_make same) = same
@@ -257,6 +273,7 @@ command_make grammar named (is_route same) = other_command grammar route_grammar
 command_make grammar named (is_walk same) = other_command grammar walk_grammar Make same named (λ (e : Walk ≡ Make). cc)
 command_make grammar named (is_play same) = other_command grammar play_grammar Make same named (λ (e : Play ≡ Make). cc)
 command_make grammar named (is_spdif same) = other_command grammar spdif_grammar Make same named (λ (e : Spdif ≡ Make). cc)
+command_make grammar named (is_capture same) = other_command grammar capture_grammar Make same named (λ (e : Capture ≡ Make). cc)
 
 pub command_spdif : (grammar : CommandGrammar) → grammar.command ≡ Spdif → IsCommand grammar → grammar ≡ spdif_grammar
 command_spdif grammar named (is_spdif same) = same
@@ -264,3 +281,12 @@ command_spdif grammar named (is_route same) = other_command grammar route_gramma
 command_spdif grammar named (is_walk same) = other_command grammar walk_grammar Spdif same named (λ (e : Walk ≡ Spdif). cc)
 command_spdif grammar named (is_play same) = other_command grammar play_grammar Spdif same named (λ (e : Play ≡ Spdif). cc)
 command_spdif grammar named (is_make same) = other_command grammar make_grammar Spdif same named (λ (e : Make ≡ Spdif). cc)
+command_spdif grammar named (is_capture same) = other_command grammar capture_grammar Spdif same named (λ (e : Capture ≡ Spdif). cc)
+
+pub command_capture : (grammar : CommandGrammar) → grammar.command ≡ Capture → IsCommand grammar → grammar ≡ capture_grammar
+command_capture grammar named (is_capture same) = same
+command_capture grammar named (is_route same) = other_command grammar route_grammar Capture same named (λ (e : Route ≡ Capture). cc)
+command_capture grammar named (is_walk same) = other_command grammar walk_grammar Capture same named (λ (e : Walk ≡ Capture). cc)
+command_capture grammar named (is_play same) = other_command grammar play_grammar Capture same named (λ (e : Play ≡ Capture). cc)
+command_capture grammar named (is_make same) = other_command grammar make_grammar Capture same named (λ (e : Make ≡ Capture). cc)
+command_capture grammar named (is_spdif same) = other_command grammar spdif_grammar Capture same named (λ (e : Spdif ≡ Capture). cc)

@@ -9,7 +9,7 @@ use Rattle.program_words.specs.Numbers.{number_in}
 use Rattle.program_words.specs.Commands.{CommandGrammar, commands, made_numbers}
 use Rattle.program_words.specs.Lines.{CommandLine, command_line_of}
 use Rattle.program_words.specs.declared.table.CommandName.{CommandName}
-use Rattle.program_words.specs.declared.table.CommandName.TheVariants.{Route, Walk, Play, Make, Spdif}
+use Rattle.program_words.specs.declared.table.CommandName.TheVariants.{Route, Walk, Play, Make, Spdif, Capture}
 use Rattle.program_words.specs.declared.request.Request.{Request}
 use Rattle.program_words.specs.declared.request.Request.TheVariants as request
 
@@ -26,6 +26,8 @@ pub data Asked : Type 0 where
   make : ℕ → Asked
   -- `spdif`: the same as `play`
   spdif : List ℕ → List ℕ → List ℕ → ℕ → ℕ → Asked
+  -- `capture`: the same as `play`
+  capture : List ℕ → List ℕ → List ℕ → ℕ → ℕ → Asked
 
 -- the bits of a sample
 abbrev pub bits_of : Bits → ℕ
@@ -40,6 +42,7 @@ asked_by (request.Walk codec schedule) = walk codec.now schedule.now
 asked_by (request.Play codec wav schedule periods period) = play codec.now wav.now schedule.now periods period
 asked_by (request.Make number) = make number
 asked_by (request.Spdif codec wav schedule periods period) = spdif codec.now wav.now schedule.now periods period
+asked_by (request.Capture codec wav schedule periods period) = capture codec.now wav.now schedule.now periods period
 
 -- the numbers of a ring as words can ask for them
 pub record IsRingInRange (periods period : ℕ) : Type 0 where
@@ -55,6 +58,7 @@ IsInRange (request.Walk codec schedule) = ⊤
 IsInRange (request.Play codec wav schedule periods period) = IsRingInRange periods period
 IsInRange (request.Make number) = ⊤
 IsInRange (request.Spdif codec wav schedule periods period) = IsRingInRange periods period
+IsInRange (request.Capture codec wav schedule periods period) = IsRingInRange periods period
 
 -- an operand of a line
 abbrev pub operand_at : CommandLine → ℕ → List ℕ
@@ -73,6 +77,9 @@ asked_of Play line =
 asked_of Make line = option_map make (number_in made_numbers (operand_at line 0))
 asked_of Spdif line =
     Some (spdif (operand_at line 0) (operand_at line 1) (operand_at line 2) (slice_index line.numbers 0)
+    (slice_index line.numbers 1))
+asked_of Capture line =
+    Some (capture (operand_at line 0) (operand_at line 1) (operand_at line 2) (slice_index line.numbers 0)
     (slice_index line.numbers 1))
 
 abbrev pub grammar_named : List ℕ → Option CommandGrammar

@@ -2,7 +2,7 @@
 use Rattle.std.specs.Prelude.{ℕ, List, [], ◌∷◌, codes, map}
 use Rattle.program_words.specs.Numbers.{Numbers, listed, between}
 use Rattle.program_words.specs.declared.table.CommandName.{CommandName}
-use Rattle.program_words.specs.declared.table.CommandName.TheVariants.{Route, Walk, Play, Make, Spdif}
+use Rattle.program_words.specs.declared.table.CommandName.TheVariants.{Route, Walk, Play, Make, Spdif, Capture}
 
 -- an option `--name`, the numbers that it takes, and that which stands for it where it isn't given
 pub record OptionGrammar : Type 0 where
@@ -85,10 +85,19 @@ spdif_grammar = record {
   options = periods_option ∷ period_option ∷ [];
 }
 
+-- `capture CODEC WAV SCHEDULE [--periods K] [--period M]`
+abbrev pub capture_grammar : CommandGrammar
+capture_grammar = record {
+  command = Capture;
+  name = codes "capture";
+  operands = 3;
+  options = periods_option ∷ period_option ∷ [];
+}
+
 -- the numbers of which an input is made
 abbrev pub made_numbers : Numbers
 made_numbers = between 0 65535
 
 -- all commands of the program
 abbrev pub commands : List CommandGrammar
-commands = route_grammar ∷ walk_grammar ∷ play_grammar ∷ make_grammar ∷ spdif_grammar ∷ []
+commands = route_grammar ∷ walk_grammar ∷ play_grammar ∷ make_grammar ∷ spdif_grammar ∷ capture_grammar ∷ []

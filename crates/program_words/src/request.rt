@@ -2,8 +2,8 @@
 ghost use Rattle.std.specs.Prelude.{◌≡◌, IfOk, IfSome, Some, None, Err, map, option_map, string_bytes, true};
 ghost use Rattle.stream_format.specs.Cadence.{hertz};
 ghost use Rattle.program_words.specs.Asked.{asked_by, asked_of, bits_of, request_of, IsInRange};
-ghost use Rattle.program_words.specs.Commands.{bits_option, channels_option, make_grammar, play_grammar, rate_option};
-ghost use Rattle.program_words.specs.Commands.{route_grammar, spdif_grammar, walk_grammar};
+ghost use Rattle.program_words.specs.Commands.{bits_option, capture_grammar, channels_option, make_grammar};
+ghost use Rattle.program_words.specs.Commands.{play_grammar, rate_option, route_grammar, spdif_grammar, walk_grammar};
 ghost use Rattle.program_words.specs.Lines.{IsLineOf};
 ghost use Rattle.program_words.specs.Numbers.{is_taken};
 ghost use Rattle.program_words.specs.Seen.{line_seen};
@@ -51,6 +51,19 @@ pub enum Request<'a> {
     },
     /// Plays a WAV file through the digital pins of the machine of a codec file by a schedule.
     Spdif {
+        /// The name of the codec file.
+        codec: &'a str,
+        /// The name of the WAV file.
+        wav: &'a str,
+        /// The name of the schedule.
+        schedule: &'a str,
+        /// How many periods the ring of sound has: 2 to 32.
+        periods: u8,
+        /// How many units of 384 bytes a period has: 1 to 128.
+        period: u8,
+    },
+    /// Records what the input pin of a codec file's machine is given, the sound of a WAV file, by a schedule.
+    Capture {
         /// The name of the codec file.
         codec: &'a str,
         /// The name of the WAV file.
@@ -184,6 +197,21 @@ fn spdif_of<'a>(line: &Line<'a>) -> Request<'a>
     }
 }
 
+/// What a line of `capture` asks.
+fn capture_of<'a>(line: &Line<'a>) -> Request<'a>
+    requires { IsLineOf capture_grammar (line_seen line.now) }
+    ensures asked { asked_of CommandName.Capture (line_seen line.now) ≡ Some (asked_by result) }
+    ensures ranges { IsInRange result }
+{
+    Request::Capture {
+        codec: line.operands[0],
+        wav: line.operands[1],
+        schedule: line.operands[2],
+        periods: line.numbers[0] as u8,
+        period: line.numbers[1] as u8,
+    }
+}
+
 /// What a line of `make` asks, where its operand is a number of which an input is made.
 fn make_of<'a>(line: &Line<'a>) -> Option<Request<'a>>
     requires { IsLineOf make_grammar (line_seen line.now) }
@@ -200,8 +228,8 @@ fn make_of<'a>(line: &Line<'a>) -> Option<Request<'a>>
 ///
 /// The first is the name of a command, and those after it are its operands and options. Without `--rate`, `--channels`
 /// and `--bits` a route is for 48,000 blocks in a second, 2 channels and samples of 16 bits. Without `--periods` and
-/// `--period` a sound is played through a ring of 4 periods of 8 units. The operand of `make` is a number of 0 to
-/// 65,535.
+/// `--period` a sound is played or recorded through a ring of 4 periods of 8 units. The operand of `make` is a number
+/// of 0 to 65,535.
 ///
 /// # Errors
 /// [`WordsFault::NoCommand`] where the words are those of no command, and want of memory.
@@ -219,5 +247,6 @@ pub fn read_words<'a>(alloc: Global, words: &'a [String]) -> Result<Request<'a>,
         CommandName::Play => Ok(play_of(&line)),
         CommandName::Make => make_of(&line).ok_or(WordsFault::NoCommand),
         CommandName::Spdif => Ok(spdif_of(&line)),
+        CommandName::Capture => Ok(capture_of(&line)),
     }
 }

@@ -17,6 +17,8 @@ pub enum CommandName {
     Make,
     /// Plays a WAV file through the digital pins of a codec file by a schedule.
     Spdif,
+    /// Records what the input pin of a codec file is given, the sound of a WAV file, by a schedule.
+    Capture,
 }
 
 /// The numbers that an option takes.
@@ -120,7 +122,15 @@ const SPDIF: CommandRow = CommandRow {
     options: &PLAY_OPTIONS,
 };
 
-const COMMANDS: [CommandRow; 5] = [ROUTE, WALK, PLAY, MAKE, SPDIF];
+/// `capture CODEC WAV SCHEDULE [--periods K] [--period M]`
+const CAPTURE: CommandRow = CommandRow {
+    command: CommandName::Capture,
+    name: "capture",
+    operands: 3,
+    options: &PLAY_OPTIONS,
+};
+
+const COMMANDS: [CommandRow; 6] = [ROUTE, WALK, PLAY, MAKE, SPDIF, CAPTURE];
 
 /// The numbers of which an input is made.
 pub const MADE_NUMBERS: Numbers = Numbers::Between(0, 65535);

@@ -116,7 +116,9 @@ fn told_of<S: Shelf>(alloc: Global, shelf: &mut S, words: &[&str]) -> Result<Str
     };
     match answer_request(alloc, shelf, request)? {
         Answer::Run(played) => told(alloc, words[2], &played),
-        Answer::Made(..) | Answer::Message(_) => String::from_str(alloc, "no run"),
+        Answer::Made(..) | Answer::Captured(_) | Answer::Message(_) => String::from_str(
+            alloc, "no run",
+        ),
     }
 }
 

@@ -31,6 +31,17 @@ fn request_text(alloc: Global, request: &Request<'_>) -> Result<String, AllocErr
                 "spdif {codec:?} {wav:?} {schedule:?} periods {periods} period {period}"
             )
         }
+        Request::Capture {
+            codec,
+            wav,
+            schedule,
+            periods,
+            period,
+        } => {
+            format!(in alloc;
+                "capture {codec:?} {wav:?} {schedule:?} periods {periods} period {period}"
+            )
+        }
     }
 }
 

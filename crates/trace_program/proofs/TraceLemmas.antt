@@ -4,13 +4,14 @@ use Rattle.std.specs.Prelude.{IfSome}
 use Rattle.hda_outside.specs.Shelf.{Files}
 use Rattle.hda_outside.specs.Sink.{TookFront}
 use Rattle.program_words.proofs.Callers.{run_is_no_make}
+use Rattle.capture_report.specs.declared.captured.Captured.{Captured}
 use Rattle.sound_report.specs.declared.played.Played.{Played}
 use Rattle.sound_report.specs.Statuses.{number_of}
 use Rattle.hda_program.specs.Answers.{HasEnded, HasWritten}
 use Rattle.hda_program.specs.Asks.{IsNoCommand}
 use Rattle.hda_program.specs.Meanings.{Meant, run_meant}
 use Rattle.hda_program.specs.Promises.{HasRun, HasWalkedOrPlayed, KeepsPromise}
-use Rattle.hda_program.proofs.Callers.{WordsCase, ran, said, cases}
+use Rattle.hda_program.proofs.Callers.{WordsCase, ran, recorded, said, cases}
 use Rattle.trace_lines.specs.declared.whole.Form.{Form}
 use Rattle.trace_program.specs.Traced.{HasEndedTrace, IsAnswered, IsRunTraced, IsTraced, trace_of, traced, traced_run}
 use Rattle.trace_program.specs.Words.{form_of, operands_of, played_words}
@@ -35,6 +36,14 @@ module _ (told : Option Files) (failed emptied unasked : List ℕ → Type 0) (g
       ap (λ (m : Meant). number_of (traced form m).status) e ∙ sym (ap (λ (m : Meant). number_of m.status) e)
   same_status form meant (ran played text run e) =
       ap (λ (m : Meant). number_of (traced form m).status) e ∙ sym (ap (λ (m : Meant). number_of m.status) e)
+  same_status form meant (recorded captured run e) =
+      ap (λ (m : Meant). number_of (traced form m).status) e ∙ sym (ap (λ (m : Meant). number_of m.status) e)
+
+  -- and its capture
+  same_capture : (form : Form) (meant : Meant) → Here meant → (traced form meant).capture ≡ meant.capture
+  same_capture form meant (said status cause text e) = ap (λ (m : Meant). (traced form m).capture) e ∙ sym (ap (λ (m : Meant). m.capture) e)
+  same_capture form meant (ran played text run e) = ap (λ (m : Meant). (traced form m).capture) e ∙ sym (ap (λ (m : Meant). m.capture) e)
+  same_capture form meant (recorded captured run e) = ap (λ (m : Meant). (traced form m).capture) e ∙ sym (ap (λ (m : Meant). m.capture) e)
 
   -- a run of words for a run is a walk or a play
   walked_or_played : (played : Played) (text : List ℕ) → HasRun told failed emptied gave (played_words words) played text
@@ -57,32 +66,33 @@ untold one other status same (inr (inr memory)) = inr (inr (memory.0, no_front o
 -- ---- the end
 
 module _ (told : Option Files) (failed emptied unasked : List ℕ → Type 0) (gave : ℕ → Type 0) (words : List (List ℕ)) (before after : Option (List ℕ)) (sink_failed : Type 0)
-    (play : Option Played) (status : ℕ) where
+    (play : Option Played) (capture : Option Captured) (status : ℕ) where
   -- the same words of `hda_play`
   abbrev Headline : Type 0
-  Headline = HasEnded told failed emptied unasked gave (played_words words) None None sink_failed play status
+  Headline = HasEnded told failed emptied unasked gave (played_words words) None None sink_failed play capture status
 
-  by_answer : (meant : Meant) → IsTraced told failed emptied unasked gave words meant → play ≡ meant.play → HasWritten before after sink_failed meant status
+  by_answer : (meant : Meant) → IsTraced told failed emptied unasked gave words meant → play ≡ meant.play → capture ≡ meant.capture → HasWritten before after sink_failed meant status
       → (answer : Meant) → meant ≡ traced (form_of words) answer → IsAnswered told failed emptied unasked gave words answer
       → IsNoCommand (played_words words) ⊎ Headline
-  by_answer meant is given written answer traced_is (inl none) = inl none.0
-  by_answer meant is given written answer traced_is (inr run) =
+  by_answer meant is given kept written answer traced_is (inl none) = inl none.0
+  by_answer meant is given kept written answer traced_is (inr run) =
       let here = cases told failed emptied unasked gave (played_words words) answer run.2 in
       let form = form_of words in
       inr (inl (record {
         meant = answer;
         is = run.2;
         given = given ∙ (ap (λ (m : Meant). m.play) traced_is ∙ sym (traced_play form answer));
+        given_capture = kept ∙ (ap (λ (m : Meant). m.capture) traced_is ∙ same_capture told failed emptied unasked gave words form answer here);
         written =
             untold meant answer status
             (ap (λ (m : Meant). number_of m.status) traced_is ∙ same_status told failed emptied unasked gave words form answer here) written;
       }))
 
   -- but for its text it has ended as `hda_play` does
-  pub ended_so : HasEndedTrace told failed emptied unasked gave words before after sink_failed play status → IsNoCommand (played_words words) ⊎ Headline
+  pub ended_so : HasEndedTrace told failed emptied unasked gave words before after sink_failed play capture status → IsNoCommand (played_words words) ⊎ Headline
   ended_so (inl answered) =
-      by_answer answered.meant answered.is answered.given answered.written answered.is.answer answered.is.is answered.is.answered
-  ended_so (inr memory) = inr (inr (memory.0, memory.1, refl))
+      by_answer answered.meant answered.is answered.given answered.given_capture answered.written answered.is.answer answered.is.is answered.is.answered
+  ended_so (inr memory) = inr (inr (memory.0, memory.1, memory.2, refl))
 
   -- ---- the promise
 
@@ -95,6 +105,8 @@ module _ (told : Option Files) (failed emptied unasked : List ℕ → Type 0) (g
   run_kept : (answer : Meant) → Here told failed emptied unasked gave words answer → (meant : Meant) → meant ≡ traced (form_of words) answer → play ≡ meant.play
       → HasWritten before after sink_failed meant status → Kept play
   run_kept answer (said of cause text e) meant traced_is given written =
+      no_run_kept play (given ∙ (ap (λ (m : Meant). m.play) traced_is ∙ ap (λ (m : Meant). (traced (form_of words) m).play) e))
+  run_kept answer (recorded captured run e) meant traced_is given written =
       no_run_kept play (given ∙ (ap (λ (m : Meant). m.play) traced_is ∙ ap (λ (m : Meant). (traced (form_of words) m).play) e))
   run_kept answer (ran played text run e) meant traced_is given written =
       let form = form_of words in
@@ -114,6 +126,6 @@ module _ (told : Option Files) (failed emptied unasked : List ℕ → Type 0) (g
   kept_by meant answer traced_is (inr run) given written =
       run_kept answer (cases told failed emptied unasked gave (played_words words) answer run.2) meant traced_is given written
 
-  pub promise_kept : HasEndedTrace told failed emptied unasked gave words before after sink_failed play status → Kept play
+  pub promise_kept : HasEndedTrace told failed emptied unasked gave words before after sink_failed play capture status → Kept play
   promise_kept (inl answered) = kept_by answered.meant answered.is.answer answered.is.is answered.is.answered answered.given answered.written
   promise_kept (inr memory) = no_run_kept play memory.1

@@ -3,6 +3,7 @@
 use Rattle.std.specs.Prelude.{◌≡◌, ◌⊎◌, ℕ, List, Option, Some, None}
 use Rattle.hda_outside.specs.Shelf.{Files}
 use Rattle.program_words.specs.Asked.{Asked, request_of}
+use Rattle.capture_report.specs.declared.captured.Captured.{Captured}
 use Rattle.sound_report.specs.declared.played.Played.{Played}
 use Rattle.sound_report.specs.declared.status.Status.TheVariants.{WordsRefused}
 use Rattle.hda_program.specs.Answers.{HasEndedWith, IsMeant}
@@ -44,9 +45,9 @@ pub record IsTraced (told : Option Files) (failed emptied unasked : List ℕ →
 -- the program has ended so
 abbrev pub HasEndedTrace : Option Files → (failed emptied unasked : List ℕ → Type 0) → (gave : ℕ → Type 0)
     → (words : List (List ℕ)) → (before after : Option (List ℕ)) → (sink_failed : Type 0) → Option Played
-    → (status : ℕ) → Type 0
-HasEndedTrace told failed emptied unasked gave words before after sink_failed play status =
-    HasEndedWith (IsTraced told failed emptied unasked gave words) before after sink_failed play status
+    → Option Captured → (status : ℕ) → Type 0
+HasEndedTrace told failed emptied unasked gave words before after sink_failed play capture status =
+    HasEndedWith (IsTraced told failed emptied unasked gave words) before after sink_failed play capture status
 
 -- the run is the walk or the play that `hda_play` makes of the same words: its journal is one history, with the
 -- progress, the open routes and the sound that are promised there. The text is this journal in the form for which the

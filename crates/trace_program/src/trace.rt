@@ -12,7 +12,7 @@ ghost use Rattle.trace_program.specs.Words.{form_of, played_words};
 
 use crate::answer::{answer_run, is_raw};
 use hda_outside::{Shelf, Sink};
-use hda_program::{Answer, Ended, Status, status_of, write_text, written_status};
+use hda_program::{Answer, Ended, Status, status_of, write_captured, write_text, written_status};
 use program_runs::walk_total;
 use sound_report::Played;
 use std::alloc::Global;
@@ -47,7 +47,7 @@ pub fn trace_main<S: Shelf, K: Sink>(
         (UnaskedUnder (S.asked shelf.old) (S.asked shelf.new))
         (GivenAtMost (S.given shelf.old) (S.given shelf.new))
         (drop 1 (map string_bytes words.now)) (K.taken out.old) (K.taken out.new)
-        (Rose (K.faults out.old) (K.faults out.new)) result.play result.status }
+        (Rose (K.faults out.old) (K.faults out.new)) result.play result.capture result.status }
 
     // The run that is given is the one that `hda_play` makes of the same words, and the text is its journal.
     ensures promise { IfSome result.play (KeepsPromise (IsRunTraced (S.told shelf.old)
@@ -65,7 +65,7 @@ pub fn trace_main<S: Shelf, K: Sink>(
         (UnaskedUnder (S.asked shelf.old) (S.asked shelf.new))
         (GivenAtMost (S.given shelf.old) (S.given shelf.new))
         (played_words (drop 1 (map string_bytes words.now))) None None (Rose (K.faults out.old) (K.faults out.new))
-        result.play result.status }
+        result.play result.capture result.status }
 
     // The shelf is asked under the names of the words alone.
     ensures asked { AsksForItsFiles (played_words (drop 1 (map string_bytes words.now))) (S.asked shelf.old)
@@ -83,24 +83,33 @@ pub fn trace_main<S: Shelf, K: Sink>(
         Err(_) => Ended {
             status: Status::OutOfMemory.number(),
             play: None,
+            capture: None,
         },
     }
 }
 
-/// Writes the text of a message, or the journal of a run, and gives the status and the run.
+/// Writes the text of a message, or the journal of a run, and gives the status and the run. A capture, for which these
+/// words cannot ask, is written as its report.
 fn write_answer<K: Sink>(alloc: Global, out: &mut K, form: Form, answer: Answer) -> Ended
     ensures written { HasWritten (K.taken out.old) (K.taken out.new) (Rose (K.faults out.old) (K.faults out.new))
         (traced form (answer_meant answer)) result.status }
     ensures play { result.play ≡ (answer_meant answer).play }
+    ensures capture { result.capture ≡ (traced form (answer_meant answer)).capture }
     ensures later { K.faults out.old ≤ K.faults out.new }
 {
     match answer {
         Answer::Message(message) => Ended {
             status: write_text(alloc, out, message.text.as_bytes(), message.status).number(),
             play: None,
+            capture: None,
         },
         Answer::Run(played) => end_run(alloc, out, form, played),
         Answer::Made(_, played) => end_run(alloc, out, form, played),
+        Answer::Captured(captured) => Ended {
+            status: write_captured(alloc, out, &captured).number(),
+            play: None,
+            capture: Some(captured),
+        },
     }
 }
 
@@ -109,11 +118,13 @@ fn end_run<K: Sink>(alloc: Global, out: &mut K, form: Form, played: Played) -> E
     ensures written { HasWritten (K.taken out.old) (K.taken out.new) (Rose (K.faults out.old) (K.faults out.new))
         (run_meant played (trace_of form played)) result.status }
     ensures play { result.play ≡ Some played }
+    ensures capture { result.capture ≡ None }
     ensures later { K.faults out.old ≤ K.faults out.new }
 {
     Ended {
         status: write_run(alloc, out, form, &played).number(),
         play: Some(played),
+        capture: None,
     }
 }
 

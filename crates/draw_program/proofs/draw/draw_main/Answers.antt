@@ -13,8 +13,8 @@ returns-in-Ok-clause-promise g c =
     let gave : ℕ → Type 0 = λ n. g.S.Shelf.given c.answer_drawing.new.shelf ≤ g.S.Shelf.given c.args.shelf.now + n in
     let words = drop 1 (map string_bytes c.args.words.now) in
     promise_kept told failed emptied unasked gave words (g.K.Sink.taken c.args.out.now) (g.K.Sink.taken c.write_drawing.new.out) (Rose (g.K.Sink.faults c.args.out.now) (g.K.Sink.faults c.write_drawing.new.out))
-    c.write_drawing.result.play c.write_drawing.result.status
-    (inl (record { meant = drawing_meant c.in-Ok.drawing; is = c.in-Ok.ensures.meant; given = c.write_drawing.ensures.play; written = c.write_drawing.ensures.written }))
+    c.write_drawing.result.play c.write_drawing.result.capture c.write_drawing.result.status
+    (inl (record { meant = drawing_meant c.in-Ok.drawing; is = c.in-Ok.ensures.meant; given = c.write_drawing.ensures.play; given_capture = c.write_drawing.ensures.capture; written = c.write_drawing.ensures.written }))
 
 pub returns-in-Ok-clause-ends_so : goal.returns-in-Ok-clause-ends_so
 returns-in-Ok-clause-ends_so g c =
@@ -25,5 +25,5 @@ returns-in-Ok-clause-ends_so g c =
     let gave : ℕ → Type 0 = λ n. g.S.Shelf.given c.answer_drawing.new.shelf ≤ g.S.Shelf.given c.args.shelf.now + n in
     let words = drop 1 (map string_bytes c.args.words.now) in
     ended_so told failed emptied unasked gave words (g.K.Sink.taken c.args.out.now) (g.K.Sink.taken c.write_drawing.new.out) (Rose (g.K.Sink.faults c.args.out.now) (g.K.Sink.faults c.write_drawing.new.out))
-    c.write_drawing.result.play c.write_drawing.result.status
-    (inl (record { meant = drawing_meant c.in-Ok.drawing; is = c.in-Ok.ensures.meant; given = c.write_drawing.ensures.play; written = c.write_drawing.ensures.written }))
+    c.write_drawing.result.play c.write_drawing.result.capture c.write_drawing.result.status
+    (inl (record { meant = drawing_meant c.in-Ok.drawing; is = c.in-Ok.ensures.meant; given = c.write_drawing.ensures.play; given_capture = c.write_drawing.ensures.capture; written = c.write_drawing.ensures.written }))

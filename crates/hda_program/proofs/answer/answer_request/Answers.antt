@@ -68,3 +68,21 @@ returns-in-Spdif-clause-asked g c = λ other apart.
     let P : Request → Type 0 = λ asked. Contains (files_of (asked_by asked)) other → ⊥ in
     let apart_from = other_three c.in-Spdif.codec.now c.in-Spdif.wav.now c.in-Spdif.schedule.now other (subst P c.in-Spdif.is apart) in
     c.answer_play-in-Spdif.ensures.asked other apart_from.first apart_from.second apart_from.third
+
+pub answer_capture-requires : goal.answer_capture-requires
+answer_capture-requires g c = let P : Request → Type 0 = λ asked. IsInRange asked in record { ring = subst P c.in-Capture.is c.requires.ranges }
+
+pub returns-in-Capture-clause-answers : goal.returns-in-Capture-clause-answers
+returns-in-Capture-clause-answers g c =
+    let failed : List ℕ → Type 0 = λ name. Rose (g.S.Shelf.faults c.args.shelf.now name) (g.S.Shelf.faults c.answer_capture.new.shelf name) in
+    let emptied : List ℕ → Type 0 = λ name. Rose (g.S.Shelf.empties c.args.shelf.now name) (g.S.Shelf.empties c.answer_capture.new.shelf name) in
+    let unasked : List ℕ → Type 0 = λ name. g.S.Shelf.asked c.answer_capture.new.shelf name ≡ g.S.Shelf.asked c.args.shelf.now name in
+    let gave : ℕ → Type 0 = λ n. g.S.Shelf.given c.answer_capture.new.shelf ≤ g.S.Shelf.given c.args.shelf.now + n in
+    let P : Request → Type 0 = λ asked. IfOk c.answer_capture.result (λ answer. RequestAnswers (g.S.Shelf.told c.args.shelf.now) failed emptied unasked gave asked (answer_meant answer)) in
+    subst P (sym c.in-Capture.is) c.answer_capture.ensures.answers
+
+pub returns-in-Capture-clause-asked : goal.returns-in-Capture-clause-asked
+returns-in-Capture-clause-asked g c = λ other apart.
+    let P : Request → Type 0 = λ asked. Contains (files_of (asked_by asked)) other → ⊥ in
+    let apart_from = other_three c.in-Capture.codec.now c.in-Capture.wav.now c.in-Capture.schedule.now other (subst P c.in-Capture.is apart) in
+    c.answer_capture.ensures.asked other apart_from.first apart_from.second apart_from.third

@@ -1,10 +1,10 @@
 use Rattle.std.proofs.Common.{◌≡◌, map, drop, rules, subst, string_bytes, Some}
 use Rattle.program_words.specs.Asked.{grammar_named}
-use Rattle.program_words.specs.Commands.{CommandGrammar, make_grammar, play_grammar, route_grammar, spdif_grammar, walk_grammar}
+use Rattle.program_words.specs.Commands.{CommandGrammar, capture_grammar, make_grammar, play_grammar, route_grammar, spdif_grammar, walk_grammar}
 use Rattle.program_words.specs.Lines.{command_line_of}
 use Rattle.program_words.specs.Seen.{line_seen}
 use Rattle.program_words.specs.Tables.{grammar_of}
-use Rattle.program_words.proofs.LineLemmas.{command_apart, command_make, command_play, command_route, command_spdif, command_walk, named_command, make_line, play_line, route_line, spdif_line, walk_line}
+use Rattle.program_words.proofs.LineLemmas.{capture_line, command_apart, command_capture, command_make, command_play, command_route, command_spdif, command_walk, named_command, make_line, play_line, route_line, spdif_line, walk_line}
 use Rattle.program_words.proofs.request.read_words.Goals as goal
 
 pub read_line-requires : goal.read_line-requires
@@ -61,3 +61,13 @@ spdif_of-requires c =
     let line : command_line_of spdif_grammar (drop 1 (map string_bytes c.args.words.now)) ≡ Some (line_seen c.in_ok-line.line) =
     subst (λ (g : CommandGrammar). command_line_of g (drop 1 (map string_bytes c.args.words.now)) ≡ Some (line_seen c.in_ok-line.line)) is c.in_ok-line.ensures.ok in
     spdif_line (drop 1 (map string_bytes c.args.words.now)) (line_seen c.in_ok-line.line) line
+
+-- the line is one of `capture`
+pub capture_of-requires : goal.capture_of-requires
+capture_of-requires c =
+    let named : grammar_named c.as_str.result.now ≡ Some (grammar_of c.in_ok-row.row) = first_of (cc, search rules) in
+    let is : grammar_of c.in_ok-row.row ≡ capture_grammar =
+    command_capture (grammar_of c.in_ok-row.row) c.in-Capture.is (named_command c.as_str.result.now (grammar_of c.in_ok-row.row) named) in
+    let line : command_line_of capture_grammar (drop 1 (map string_bytes c.args.words.now)) ≡ Some (line_seen c.in_ok-line.line) =
+    subst (λ (g : CommandGrammar). command_line_of g (drop 1 (map string_bytes c.args.words.now)) ≡ Some (line_seen c.in_ok-line.line)) is c.in_ok-line.ensures.ok in
+    capture_line (drop 1 (map string_bytes c.args.words.now)) (line_seen c.in_ok-line.line) line
