@@ -43,6 +43,12 @@ def direct(count, pcm):
     return codec(0, ["nid = 0x02, caps = 0x1"] + pins(0x10, count, [2]), f"pcm = 0x{pcm:08X}\n")
 
 
+def microphone(pcm):
+    """A converter that lists one input pin. Its set-up takes 37 commands."""
+    converter = f"nid = 0x08, caps = 0x100111, formats = 1, pcm = 0x{pcm:08X}, list = [0x18]"
+    return codec(0, [converter, "nid = 0x18, caps = 0x400001, pin_caps = 0x20, default = 0x01A19030"])
+
+
 def by_pairs(count, pcm):
     """Four converters that so many pins list, which take the pairs of eight channels in turn."""
     nodes = [f"nid = 0x{nid:02X}, caps = 0x1" for nid in (2, 3, 4, 5)]
@@ -112,6 +118,9 @@ def make(folder):
     turns = playing(plain_commands(eight_32, folder) + 3, frames // 48, "fetch 1 1536\nlink 12\n")
     add("play_wide", ["play", eight_32, put("eight_32.wav", sound(192_000, frames - 100, 8, 32)),
         put("eight_32.txt", turns)], 2.0, 4.0)
+    heard = put("microphone.toml", microphone(0x00020040))
+    add("capture", ["capture", heard, put("given.wav", sound(48_000, frames - 100)),
+        put("capture.txt", set_up(37) + f"repeat {frames // 48}\nrun 0\nlink 48\nfetch 0 192\nend\nrun 0\n")], 2.0, 4.0)
     add("steps", ["play", one, put("steps.wav", sound(48_000, 490_000)),
         put("steps.txt", playing(few, 10_290, "fetch 1 4\nlink 1\n" * 48))], 1.3, None)
     add("runs", ["play", one, put("runs.wav", sound(48_000, 665_000)),

@@ -1,4 +1,6 @@
-//! The device: codecs behind rings, and the output stream whose blocks the pins hear.
+//! The device: codecs behind rings, the output stream whose blocks the pins hear, and the input stream where one is
+//! recorded.
+use crate::capturing::InputStream;
 use crate::driver::answer;
 use crate::graph::{Codec, Format, NODES};
 use crate::schedule::Step;
@@ -37,6 +39,7 @@ pub struct Device {
     pub rirb_written: usize,
     pub frames: u64,
     pub stream: Stream,
+    pub input: Option<InputStream>,
     pub journal: Vec<Entry>,
     pub carried: Vec<u8>,
 }
@@ -58,7 +61,7 @@ pub struct Stream {
 }
 
 /// How many blocks are due in each link frame, until they come again.
-fn cadence(rate: u32) -> Vec<u8> {
+pub fn cadence(rate: u32) -> Vec<u8> {
     match rate {
         8_000 => vec![1, 0, 0, 0, 0, 0],
         16_000 => vec![1, 0, 0],
@@ -151,6 +154,7 @@ impl Device {
             rirb_written: 0,
             frames: 0,
             stream,
+            input: None,
             journal: Vec::new(),
             carried: Vec::new(),
         }
@@ -196,6 +200,8 @@ impl Device {
     pub fn fetch(&mut self, stream: u8, most: u32) {
         if stream == 1 {
             self.stream.fetch(most as usize);
+        } else if let Some(input) = &mut self.input {
+            input.store(most as usize);
         }
     }
 
@@ -204,6 +210,11 @@ impl Device {
         if self.stream.runs {
             for _ in 0..frames {
                 self.stream.frame();
+            }
+        }
+        if let Some(input) = &mut self.input {
+            for _ in 0..frames {
+                input.frame();
             }
         }
     }

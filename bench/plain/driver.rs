@@ -1,5 +1,6 @@
 //! What the driver asks codecs and tells them: the walk over each, and the verbs that set it up.
 use crate::graph::{Codec, Format, Kind, Node, Plan, Role, NODES};
+use crate::inputs::input_verbs;
 use std::collections::VecDeque;
 
 /// A question of the walk, or a verb of the set-up.
@@ -20,6 +21,8 @@ pub struct BringUp {
     left: VecDeque<u8>,
     queue: VecDeque<Ask>,
     format: Format,
+    /// Whether an input is set up, and not outputs.
+    records: bool,
     pub sent: u32,
     waits: Option<Ask>,
     set_up: bool,
@@ -68,21 +71,22 @@ fn applies(node: &Node, word: u8) -> bool {
 }
 
 /// A verb of 12 bits with its payload of 8, or one of 4 with a payload of 16.
-fn short(verb: u32, payload: u32) -> u32 {
+pub fn short(verb: u32, payload: u32) -> u32 {
     verb << 8 | payload
 }
 
-fn wide(verb: u32, payload: u32) -> u32 {
+pub fn wide(verb: u32, payload: u32) -> u32 {
     verb << 16 | payload
 }
 
 impl BringUp {
-    pub fn new(format: Format) -> BringUp {
+    pub fn new(format: Format, records: bool) -> BringUp {
         BringUp {
             told: Vec::new(),
             left: VecDeque::new(),
             queue: VecDeque::new(),
             format,
+            records,
             sent: 0,
             waits: None,
             set_up: false,
@@ -107,9 +111,16 @@ impl BringUp {
             None if !self.set_up => {
                 self.set_up = true;
                 let mut verbs = Vec::new();
+                let mut found = false;
                 for codec in &self.told {
-                    let plan = codec.plan(self.format);
-                    setup_verbs(codec, &plan, self.format, &mut verbs);
+                    if self.records {
+                        let input = if found { None } else { codec.input(self.format) };
+                        found |= input.is_some();
+                        input_verbs(codec, input.as_ref(), self.format, &mut verbs);
+                    } else {
+                        let plan = codec.plan(self.format);
+                        setup_verbs(codec, &plan, self.format, &mut verbs);
+                    }
                 }
                 self.queue
                     .extend(verbs.iter().map(|(address, word)| Ask::Set(*address, *word)));
@@ -253,7 +264,7 @@ fn learn_entries(node: &mut Node, place: usize, answer: u32) {
 }
 
 /// An amplifier's payload: both sides of the output or of the input at a place.
-fn amplifier(output: bool, place: usize, mute: bool, word: u32) -> u32 {
+pub fn amplifier(output: bool, place: usize, mute: bool, word: u32) -> u32 {
     let gain = if mute { 0x80 } else { word & 127 };
     let side = if output { 0x8000 } else { 0x4000 };
     wide(0x3, side | 0x3000 | (place as u32) << 8 | gain)

@@ -54,17 +54,26 @@ impl Node {
         matches!(self.kind(), Kind::Mixer | Kind::Selector)
     }
 
-    fn is_analog_stereo(&self) -> bool {
+    pub fn is_analog_stereo(&self) -> bool {
         self.has(0) && !self.has(9)
     }
 
     fn is_candidate(&self) -> bool {
+        self.is_connected(4) && self.default >> 20 & 15 <= 2
+    }
+
+    /// Whether it is a candidate of an input: a line in or a microphone.
+    pub fn is_input(&self) -> bool {
+        self.is_connected(5) && matches!(self.default >> 20 & 15, 8 | 10)
+    }
+
+    /// Whether it is a pin with this capability that leads somewhere.
+    fn is_connected(&self, capability: u32) -> bool {
         let default = self.default;
         self.kind() == Kind::Pin
             && self.is_analog_stereo()
-            && self.pin_caps >> 4 & 1 == 1
+            && self.pin_caps >> capability & 1 == 1
             && default >> 30 != 1
-            && default >> 20 & 15 <= 2
             && default >> 4 & 15 != 0
     }
 
@@ -310,7 +319,7 @@ impl Codec {
         self.words_of(node, 3)
     }
 
-    fn supports(&self, node: &Node, format: Format) -> bool {
+    pub fn supports(&self, node: &Node, format: Format) -> bool {
         let words = self.words_of(node, 4);
         words.formats & 1 == 1 && words.pcm >> format.rate_bit() & 1 == 1 && words.pcm >> format.size_bit() & 1 == 1
     }
@@ -342,11 +351,11 @@ impl Codec {
         found
     }
 
-    /// The candidate pins in their order.
-    fn order(&self) -> Vec<u8> {
+    /// The pins that are such candidates, in their order.
+    pub fn order(&self, is_candidate: fn(&Node) -> bool) -> Vec<u8> {
         let nids = self.first..self.first + self.count;
         let mut pins: Vec<u8> = nids
-            .filter(|nid| self.node(*nid).is_some_and(Node::is_candidate))
+            .filter(|nid| self.node(*nid).is_some_and(is_candidate))
             .collect();
         pins.sort_by_key(|nid| {
             let default = self.node(*nid).map_or(0, |node| node.default);
@@ -355,11 +364,11 @@ impl Codec {
         pins
     }
 
-    fn can_be_left(&self, node: &Node, index: usize) -> bool {
+    pub fn can_be_left(&self, node: &Node, index: usize) -> bool {
         let mixer = node.kind() != Kind::Mixer
             || node.list.len() < 2
             || node.has(1) && self.amp_words(node).amp_in >> 31 == 1;
-        let selector = node.kind() != Kind::Selector || !node.has(1) || index <= 15;
+        let selector = !matches!(node.kind(), Kind::Selector | Kind::Input) || !node.has(1) || index <= 15;
         mixer && selector
     }
 
@@ -447,7 +456,7 @@ impl Codec {
         // how many pins of the association were passed that are no headphones
         let mut passed = 0;
         let mut association = None;
-        for pin in self.order() {
+        for pin in self.order(Node::is_candidate) {
             let default = self.node(pin).map_or(0, |node| node.default);
             let of = Some(default >> 4 & 15);
             if of != association {

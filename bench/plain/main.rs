@@ -2,15 +2,18 @@
 //! `compare.py` makes: it reads them, plans routes, drives a device with codecs and a stream by the schedule, and
 //! writes the same text. It keeps the bytes of blocks once for all pins, and makes each pin's lines while it writes
 //! them.
+mod capturing;
 mod device;
 mod driver;
 mod graph;
+mod inputs;
 mod making;
 mod playing;
 mod report;
 mod schedule;
 mod toml;
 
+use capturing::{write_capture, Input, InputStream, Recorder};
 use device::{Device, Stream};
 use driver::BringUp;
 use graph::{read_machine, Format, Machine};
@@ -101,9 +104,8 @@ fn route(name: &str, channels: u8) -> Result<u8, Fault> {
     Ok(0)
 }
 
-/// The driver and the device once the schedule has ended.
-fn driven(machine: &Machine, format: Format, sound: Vec<u8>, plays: bool, parts: &[schedule::Part]) -> (Driver, Device) {
-    let addresses: Vec<u8> = machine.codecs.iter().map(|codec| codec.address).collect();
+/// What a driver goes by with this machine and this sound.
+fn pace(machine: &Machine, format: Format) -> Pace {
     let block = format.block() as u64;
     let most = match format.rate {
         96_000 => 2 * block,
@@ -111,13 +113,18 @@ fn driven(machine: &Machine, format: Format, sound: Vec<u8>, plays: bool, parts:
         _ => block,
     };
     let limit = (RING - machine.fifo) as u64 / most;
-    let pace = Pace {
+    Pace {
         block,
         limit,
         ahead: (machine.fifo as u64).next_multiple_of(block) + limit / 4 * most,
-    };
+    }
+}
+
+/// The driver and the device once the schedule has ended.
+fn driven(machine: &Machine, format: Format, sound: Vec<u8>, plays: bool, parts: &[schedule::Part]) -> (Driver, Device) {
+    let addresses: Vec<u8> = machine.codecs.iter().map(|codec| codec.address).collect();
     let mut device = Device::new(&machine.codecs, Stream::new(format, RING, machine.fifo));
-    let mut driver = Driver::new(BringUp::new(format), sound, plays, pace);
+    let mut driver = Driver::new(BringUp::new(format, false), sound, plays, pace(machine, format));
     pass(&mut driver, &mut device, &addresses, parts);
     (driver, device)
 }
@@ -152,6 +159,40 @@ fn drive(codec: &str, wav: Option<&str>, schedule: &str) -> Result<u8, Fault> {
     )?)
 }
 
+fn capture(codec: &str, wav: &str, schedule: &str) -> Result<u8, Fault> {
+    let machine = machine(codec)?;
+    let (format, sound) = sound(wav)?;
+    let text = String::from_utf8(read(schedule)?).map_err(|_| Fault::File)?;
+    let parts = schedule::read(&text).ok_or(Fault::File)?;
+    let found = machine.codecs.iter().find_map(|codec| {
+        let (hops, pin) = codec.input(format)?;
+        Some(Input {
+            address: codec.address,
+            hops,
+            pin,
+        })
+    });
+    let Some(input) = found else {
+        writeln!(io::stdout(), "nothing routed")?;
+        return Ok(8);
+    };
+    let addresses: Vec<u8> = machine.codecs.iter().map(|codec| codec.address).collect();
+    let pace = pace(&machine, format);
+    let behind = (machine.fifo as u64).next_multiple_of(pace.block);
+    let recorder = Recorder::new(sound.len() as u64, behind, pace.limit);
+    let mut device = Device::new(&machine.codecs, Stream::new(format, RING, machine.fifo));
+    device.input = Some(InputStream::new(format, RING, machine.fifo, sound));
+    let mut driver = Driver::new(BringUp::new(format, true), Vec::new(), false, pace);
+    driver.recorder = Some(recorder);
+    pass(&mut driver, &mut device, &addresses, &parts);
+    let mut out = io::stdout().lock();
+    let (phase, sent) = (driver.phase, driver.bring_up.sent);
+    match &driver.recorder {
+        Some(recorder) => Ok(write_capture(&mut out, &input, &device, recorder, phase, format, sent)?),
+        None => Ok(11),
+    }
+}
+
 fn run() -> Result<u8, Fault> {
     let words: Vec<String> = std::env::args().skip(1).collect();
     let words: Vec<&str> = words.iter().map(String::as_str).collect();
@@ -160,6 +201,7 @@ fn run() -> Result<u8, Fault> {
         ["route", codec, "--channels", channels] => route(codec, channels.parse().map_err(|_| Fault::Words)?),
         ["walk", codec, schedule] => drive(codec, None, schedule),
         ["play", codec, wav, schedule] => drive(codec, Some(wav), schedule),
+        ["capture", codec, wav, schedule] => capture(codec, wav, schedule),
         ["make", number] => make(number.parse().map_err(|_| Fault::Words)?),
         _ => Err(Fault::Words),
     }

@@ -1,4 +1,5 @@
 //! The driver over the device: reset, bring-up, and then the sound by runs.
+use crate::capturing::Recorder;
 use crate::device::{Device, Entry};
 use crate::driver::BringUp;
 use crate::schedule::{Line, Part, Step};
@@ -7,9 +8,9 @@ use std::ops::Range;
 /// Places of registers.
 const CORBWP: u16 = 0x48;
 const RIRBWP: u16 = 0x58;
-const RIRBSTS: u16 = 0x5D;
-const WALCLK: u16 = 0x30;
-const LPIB: u16 = 0x84;
+pub const RIRBSTS: u16 = 0x5D;
+pub const WALCLK: u16 = 0x30;
+pub const LPIB: u16 = 0x84;
 
 pub struct Run {
     pub at: u64,
@@ -49,6 +50,8 @@ pub struct Driver {
     /// The bytes of the sound; none for a walk.
     sound: Vec<u8>,
     plays: bool,
+    /// Where it records.
+    pub recorder: Option<Recorder>,
     block: u64,
     pub limit: u64,
     /// How far past the link silence is taken back at most.
@@ -70,6 +73,7 @@ impl Driver {
             bring_up,
             sound,
             plays,
+            recorder: None,
             block: pace.block,
             limit: pace.limit,
             ahead: pace.ahead,
@@ -95,7 +99,14 @@ impl Driver {
             }
             Phase::Commands => self.command(device),
             Phase::Ready | Phase::Playing if self.plays => self.run(device, budget),
+            Phase::Ready | Phase::Playing => self.record(device),
             _ => {}
+        }
+    }
+
+    fn record(&mut self, device: &mut Device) {
+        if let Some(recorder) = &mut self.recorder {
+            self.phase = recorder.run(device, self.phase == Phase::Playing);
         }
     }
 
@@ -287,8 +298,10 @@ pub fn pass(driver: &mut Driver, device: &mut Device, addresses: &[u8], parts: &
             }
         }
     }
-    if driver.phase == Phase::Playing {
+    if driver.phase == Phase::Playing && driver.plays {
         driver.run(device, 0);
+    } else if driver.phase == Phase::Playing {
+        driver.record(device);
     } else if driver.phase == Phase::Commands {
         driver.command(device);
     }

@@ -10,7 +10,7 @@ const DIGITS: &[u8; 16] = b"0123456789abcdef";
 const LINE_BLOCKS: usize = 16;
 
 /// Appends bytes, each as two hexadecimal digits.
-fn push_hex(page: &mut Vec<u8>, bytes: &[u8]) {
+pub fn push_hex(page: &mut Vec<u8>, bytes: &[u8]) {
     let start = page.len();
     page.resize(start + 2 * bytes.len(), 0);
     for (digits, byte) in page[start..].chunks_exact_mut(2).zip(bytes) {
@@ -20,7 +20,7 @@ fn push_hex(page: &mut Vec<u8>, bytes: &[u8]) {
 }
 
 /// Writes the page where it is full.
-fn turn<W: Write>(out: &mut W, page: &mut Vec<u8>) -> io::Result<()> {
+pub fn turn<W: Write>(out: &mut W, page: &mut Vec<u8>) -> io::Result<()> {
     if page.len() >= 61_440 {
         out.write_all(page)?;
         page.clear();

@@ -12,7 +12,7 @@ use std::process::ExitCode;
 use test_cases::{Cases, run_cases, text_of};
 
 /// The files of cases.
-const FILES: [&str; 12] = [
+const FILES: [&str; 13] = [
     "parts.txt",
     "routes.txt",
     "keys.txt",
@@ -25,6 +25,7 @@ const FILES: [&str; 12] = [
     "cuts.txt",
     "makes.txt",
     "spdif.txt",
+    "captures.txt",
 ];
 
 /// The ways in which cases are run.

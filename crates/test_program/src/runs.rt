@@ -61,10 +61,12 @@ pub fn run_of(alloc: Global, words: &[Vec<u8>]) -> Result<Run, AllocError> {
     Ok(run)
 }
 
-/// The status of a run, whether a run of the driver was given, and each line of the text.
+/// The status of a run, whether a run of the driver was given or a capture, and each line of the text.
 fn ended_text(alloc: Global, ended: &Ended, written: &[u8]) -> Result<String, AllocError> {
     let given = if ended.play.is_some() {
         " with its run"
+    } else if ended.capture.is_some() {
+        " with its capture"
     } else {
         ""
     };
@@ -208,7 +210,12 @@ pub fn tell_files(alloc: Global, words: &[Vec<u8>]) -> Result<String, AllocError
         1,
     );
     let mut text = ended_text(alloc, &ended, out.bytes())?;
-    if let Some(played) = ended.play {
+    let Ended {
+        status: _,
+        play,
+        capture: _,
+    } = ended;
+    if let Some(played) = play {
         let whole = report(alloc, &played)?;
         if whole.as_slice() == out.bytes() {
             text.push_str("\n  which is its report")?;
