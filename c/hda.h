@@ -81,7 +81,9 @@ int hda_line(hda *device);
 /* ---- what the device does ---- */
 
 /* One step each. HDA_OK also where nothing was there to be done, as while the controller is in reset. */
-int hda_corb(hda *device);                  /* CORB's engine fetches a command and hands it to its codec (4.4.1) */
+/* CORB's engine fetches a command and hands it to its codec (4.4.1). Room is taken first for the mark of a pin whose
+ * control it may set; HDA_NO_MEMORY where there is none. */
+int hda_corb(hda *device);
 int hda_answer(hda *device, uint8_t codec); /* the codec sends the first answer or event that waits at it (4.4.2) */
 int hda_lose(hda *device, uint8_t codec);   /* the codec loses the first answer that waits at it */
 int hda_rirb(hda *device);                  /* RIRB's engine writes what waits, at most RINTCNT responses (4.4.2) */

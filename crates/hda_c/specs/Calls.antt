@@ -1,11 +1,11 @@
 -- What an export makes of the model at a place. This project's own.
-use Rattle.std.specs.Prelude.{◌≡◌, ◌<◌, ◌⊎◌, ℕ, Bool, nat_lt, if◌then◌else◌, List, length, Option, Some, None}
+use Rattle.std.specs.Prelude.{◌≡◌, ◌<◌, ◌⊎◌, ◌+◌, ℕ, Bool, nat_lt, if◌then◌else◌, List, length, Option, Some, None}
 use Rattle.world_steps.specs.declared.Step.{Step}
 use Rattle.hda_registers.specs.declared.shapes.Width.{Width}
 use Rattle.hda_registers.specs.Access.{value_at}
 use Rattle.hda_registers.specs.Status.{interrupt_line_of}
 use Rattle.hda_controller.specs.Controllers.{has_codec}
-use Rattle.hda_controller.specs.Hearing.{most_items}
+use Rattle.hda_controller.specs.Hearing.{most_items, most_marks}
 use Rattle.hda_model.specs.declared.faults.OpenFault.{OpenFault}
 use Rattle.hda_model.specs.declared.faults.StepFault.{StepFault}
 use Rattle.hda_model.specs.Models.{ModelState, IsWritten, IsStepped}
@@ -80,7 +80,7 @@ IsSteppedBy (Some step) old new before after = IsStepped step old new before aft
 
 -- a step is made where it names what is there, unless memory was wanting where it asks room for what pins hear
 abbrev pub IsMade : Step → Option StepFault → ℕ → Type 0
-IsMade step None status = (status ≡ DONE) ⊎ ((status ≡ NO_MEMORY) × (0 < most_items step))
+IsMade step None status = (status ≡ DONE) ⊎ ((status ≡ NO_MEMORY) × (0 < most_items step + most_marks step))
 IsMade step (Some fault) status = status ≡ NO_SUCH
 
 abbrev pub IsStepStatus : Option Step → Option ModelState → ℕ → Type 0

@@ -8,5 +8,3 @@ pub use Rattle.hda_controller.proofs.Listed.{heard_stepped}
 pub use Rattle.hda_controller.proofs.Listed.{heard_reserved}
 -- the lists of a sound machine are those of candidate pins of its codecs
 pub use Rattle.hda_controller.proofs.Listed.{heard_listed}
--- lists that grew and grew again
-pub use Rattle.hda_controller.proofs.Growth.{grew_still, grew_on}

@@ -24,15 +24,15 @@ use Rattle.device_core.specs.Devices.{DeviceState, KeepsSound}
 use Rattle.heard_lists.specs.Listings.{Listing, grown_as, with_blocks}
 use Rattle.heard_lists.proofs.Callers.{grown-append, grown-none, blocks-grow}
 use Rattle.hda_controller.specs.Controllers.{signal_now}
-use Rattle.hda_controller.specs.Hearing.{AreDue, CameAs, GrewAs}
+use Rattle.hda_controller.specs.Hearing.{AreDue, CameAs, FramesHeardAs}
 
 -- ---- worlds in turn
 
 -- no link frame carried anything
-pub grew_still : (kind : PinKind) (before after : World) (lists : List Listing) → after.carried ≡ before.carried → GrewAs kind before after lists lists
+pub grew_still : (kind : PinKind) (before after : World) (lists : List Listing) → after.carried ≡ before.carried → FramesHeardAs kind before after lists lists
 grew_still kind before after lists stays = record { added = []; carried = stays ∙ sym (append-nil before.carried); lists = sym (grown-none kind lists) }
 
-pub grew_on : (kind : PinKind) (before middle after : World) (old between new : List Listing) → GrewAs kind before middle old between → GrewAs kind middle after between new → GrewAs kind before after old new
+pub grew_on : (kind : PinKind) (before middle after : World) (old between new : List Listing) → FramesHeardAs kind before middle old between → FramesHeardAs kind middle after between new → FramesHeardAs kind before after old new
 grew_on kind before middle after old between new first second = record {
   added = first.added ++ second.added;
   carried = second.carried ∙ (ap (λ (frames : List CarriedFrame). frames ++ second.added) first.carried ∙ append_assoc before.carried first.added second.added);
@@ -74,22 +74,22 @@ module _ (kind : PinKind) (world : World) where
   carried_found carriages is =
       carried_when (is_out_of_reset world.registers.global) ∙ ap (λ (list : List Carriage). world.carried ++ map (frame_carried world) list) is
 
-  pub grew_idle : (lists : List Listing) → (found ≡ output.Stopped) ⊎ (found ≡ output.Broken) → GrewAs kind world (frame_step world) lists lists
+  pub grew_idle : (lists : List Listing) → (found ≡ output.Stopped) ⊎ (found ≡ output.Broken) → FramesHeardAs kind world (frame_step world) lists lists
   grew_idle lists none = grew_still kind world (frame_step world) lists (carried_found [] (elim none [
     | inl stopped ↦ ap (λ (f : output.Frame). carried_by f (output_of world)) stopped
     | inr broken ↦ ap (λ (f : output.Frame). carried_by f (output_of world)) broken
   ]) ∙ append-nil world.carried)
 
-  grew_one : (carriage : Carriage) (old new : List Listing) → carried_by found (output_of world) ≡ carriage ∷ [] → new ≡ grown_as kind (frame_carried world carriage ∷ []) old → GrewAs kind world (frame_step world) old new
+  grew_one : (carriage : Carriage) (old new : List Listing) → carried_by found (output_of world) ≡ carriage ∷ [] → new ≡ grown_as kind (frame_carried world carriage ∷ []) old → FramesHeardAs kind world (frame_step world) old new
   grew_one carriage old new is lists = record { added = frame_carried world carriage ∷ []; carried = carried_found (carriage ∷ []) is; lists = lists }
 
-  pub grew_gap : (old new : List Listing) → found ≡ output.Gap → new ≡ grown_as kind (frame_carried world (Sent []) ∷ []) old → GrewAs kind world (frame_step world) old new
+  pub grew_gap : (old new : List Listing) → found ≡ output.Gap → new ≡ grown_as kind (frame_carried world (Sent []) ∷ []) old → FramesHeardAs kind world (frame_step world) old new
   grew_gap old new gap lists = grew_one (Sent []) old new (ap (λ (f : output.Frame). carried_by f (output_of world)) gap) lists
 
-  pub grew_hole : (old new : List Listing) → found ≡ output.Hole → new ≡ grown_as kind (frame_carried world Missed ∷ []) old → GrewAs kind world (frame_step world) old new
+  pub grew_hole : (old new : List Listing) → found ≡ output.Hole → new ≡ grown_as kind (frame_carried world Missed ∷ []) old → FramesHeardAs kind world (frame_step world) old new
   grew_hole old new hole lists = grew_one Missed old new (ap (λ (f : output.Frame). carried_by f (output_of world)) hole) lists
 
-  pub grew_blocks : (old new : List Listing) → found ≡ output.Blocks → new ≡ grown_as kind (frame_carried world (Sent (take (due (output_of world)) (held_bytes world.output))) ∷ []) old → GrewAs kind world (frame_step world) old new
+  pub grew_blocks : (old new : List Listing) → found ≡ output.Blocks → new ≡ grown_as kind (frame_carried world (Sent (take (due (output_of world)) (held_bytes world.output))) ∷ []) old → FramesHeardAs kind world (frame_step world) old new
   grew_blocks old new blocks lists = grew_one (Sent (take (due (output_of world)) (held_bytes world.output))) old new (ap (λ (f : output.Frame). carried_by f (output_of world)) blocks) lists
 
 -- ---- its blocks
@@ -145,7 +145,7 @@ module _ (kind : PinKind) (world : World) (device : DeviceState) (blocks : ℕ) 
   -- lists that heard the blocks by the signals of the device, which are those of the world, grew by the frame
   pub blocks_heard : found kind world ≡ output.Blocks → AreDueOf (output_of world) blocks → bytes ≡ take (due (output_of world)) (held_bytes world.output) ++ rest
       → ((layout : Layout) → layout_of device.registers.output.format ≡ Some layout → new ≡ map (with_blocks (signal_now kind device) layout (take (blocks * bytes_of_block layout.channels layout.bits) bytes)) old)
-      → GrewAs kind world (frame_step world) old new
+      → FramesHeardAs kind world (frame_step world) old new
   blocks_heard is laid stand heard =
       let layout = laid.0 in
       let stream = output_of world in

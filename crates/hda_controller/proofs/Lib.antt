@@ -9,6 +9,8 @@ mod Hearing
 mod Due
 mod Growth
 mod Listed
+mod CommandMarks
+mod Untaken
 mod Unheard
 mod WrittenMarks
 pub mod Callers

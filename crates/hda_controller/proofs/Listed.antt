@@ -16,17 +16,17 @@ use Rattle.world_steps.specs.declared.Step.{Step}
 use Rattle.hda_files.specs.declared.machine.CodecFile.{CodecFile}
 use Rattle.hda_files.specs.declared.machine.Machine.{Machine}
 use Rattle.hda_files.specs.Machines.{IsSound}
-use Rattle.heard_lists.specs.Listings.{Listing, AreListsAs, graphs_in, places_of, places_in, pins_of, grown_as, with_items, handed_out}
+use Rattle.heard_lists.specs.Listings.{marked, with_marks, Listing, AreListsAs, graphs_in, places_of, places_in, pins_of, grown_as, with_items, handed_out}
 use Rattle.heard_lists.specs.declared.pin_list.PinHeard.{PinHeard}
 use Rattle.heard_frames.specs.HeardLists.{heard_as}
-use Rattle.hda_world.specs.Worlds.{World, CarriedFrame, codec_at}
+use Rattle.hda_world.specs.Worlds.{TakenCommand, World, CarriedFrame, codec_at}
 use Rattle.hda_world.specs.Steps.{after_step}
 use Rattle.hda_world.proofs.Callers.{steps_leave}
 use Rattle.device_core.specs.Codecs.{addresses_of, graphs_of_all}
 use Rattle.device_core.specs.Devices.{DeviceState, IsWorld}
 use Rattle.hda_controller.specs.Controllers.{ControllerState, StandsFor, is_candidate_in, is_candidate_of_kind}
 use Rattle.hda_controller.specs.Openings.{codecs_in}
-use Rattle.hda_controller.specs.Hearing.{AreHeardAs, GrewAs}
+use Rattle.hda_controller.specs.Hearing.{AreHeardAs, FramesHeardAs, GrewAs}
 
 abbrev graph_addresses : List RawCodec → List ℕ
 graph_addresses graphs = map (λ graph. graph.address) graphs
@@ -61,11 +61,15 @@ pub heard_grown : (kind : PinKind) (codecs : List CodecState) (frames : List Car
 heard_grown kind codecs frames lists are =
     All-map (λ (listing : Listing). is_candidate_of_kind kind codecs listing.codec listing.pin ≡ true) (λ (listing : Listing). with_items (heard_as kind listing.codec listing.pin frames) listing) lists (λ k d within. are k d within)
 
+heard_marked : (kind : PinKind) (codecs : List CodecState) (commands : List TakenCommand) (lists : List Listing) → AreHeardAs kind codecs lists → AreHeardAs kind codecs (marked commands lists)
+heard_marked kind codecs commands lists are =
+    All-map (λ (listing : Listing). is_candidate_of_kind kind codecs listing.codec listing.pin ≡ true) (with_marks commands) lists (λ k d within. are k d within)
+
 -- over a step of the world
 pub heard_stepped : (kind : PinKind) (step : Step) (world : World) (old new : List Listing) → GrewAs kind world (after_step step world) old new → AreHeardAs kind world.codecs old → AreHeardAs kind (after_step step world).codecs new
 heard_stepped kind step world old new grew are =
     heard_by kind world.codecs (after_step step world).codecs new (steps_leave (step ∷ []) world).graphs
-    (subst (AreHeardAs kind world.codecs) (sym grew.lists) (heard_grown kind world.codecs grew.added old are))
+    (subst (AreHeardAs kind world.codecs) (sym grew.lists) (heard_grown kind world.codecs grew.added (marked grew.taken old) (heard_marked kind world.codecs grew.taken old are)))
 
 -- and of a controller, which stood for some world
 pub heard_after : (kind : PinKind) (memory after : List ℕ) (device : DeviceState) (old new : ControllerState) (step : Step) (before lists : List Listing) → device ≡ old.device
@@ -98,7 +102,7 @@ addresses_after memory after device old new step view some stands =
     ∙ (addresses_by world.codecs (after_step step world).codecs (steps_leave (step ∷ []) world).graphs ∙ ap addresses_of is.codecs_are)
 
 -- over a move that keeps the codecs
-pub heard_moved : (kind : PinKind) (old new : List CodecState) (world after : World) (before lists : List Listing) → new ≡ old → GrewAs kind world after before lists → AreHeardAs kind old before → AreHeardAs kind new lists
+pub heard_moved : (kind : PinKind) (old new : List CodecState) (world after : World) (before lists : List Listing) → new ≡ old → FramesHeardAs kind world after before lists → AreHeardAs kind old before → AreHeardAs kind new lists
 heard_moved kind old new world after before lists same grew are =
     subst (λ (codecs : List CodecState). AreHeardAs kind codecs lists) (sym same) (subst (AreHeardAs kind old) (sym grew.lists) (heard_grown kind old grew.added before are))
 

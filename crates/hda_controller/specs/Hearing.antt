@@ -1,5 +1,5 @@
 -- What a step of the device adds to heard lists, and whose signals it renews. This project's own.
-use Rattle.std.specs.Prelude.{◌≡◌, ◌*◌, ◌++◌, ℕ, Bool, List, All, true, Some}
+use Rattle.std.specs.Prelude.{◌≡◌, ◌*◌, ◌++◌, ℕ, Bool, List, All, length, true, Some}
 use Rattle.codec_graph.specs.CodecStates.{CodecState}
 use Rattle.codec_graph.specs.declared.pin_kind.PinKind.{PinKind}
 use Rattle.codec_graph.specs.declared.pin_kind.PinKind.TheVariants.{Analog}
@@ -8,8 +8,8 @@ use Rattle.world_steps.specs.declared.Step.TheVariants as step
 use Rattle.stream_format.specs.Cadence.{blocks_of}
 use Rattle.stream_format.specs.Layouts.{Layout, layout_of}
 use Rattle.device_core.specs.Codecs.{handed_now}
-use Rattle.hda_world.specs.Worlds.{World, CarriedFrame}
-use Rattle.heard_lists.specs.Listings.{Listing, grown_as}
+use Rattle.hda_world.specs.Worlds.{World, TakenCommand, CarriedFrame}
+use Rattle.heard_lists.specs.Listings.{Listing, grown_as, marked}
 use Rattle.hda_controller.specs.Controllers.{ControllerState, is_candidate_of_kind, renewals_of, renewals_handed}
 
 -- for how many items in each list a step asks room, and for how many marks of blocks that come: a link frame has at
@@ -24,16 +24,36 @@ most_items (step.Link frames) = 4 * frames
 most_items (step.Plug codec pin) = 0
 most_items (step.Unplug codec pin) = 0
 
+-- for how many marks of pins a step asks room: one where CORB's engine may hand a command on
+abbrev pub most_marks : Step → ℕ
+most_marks step.Corb = 1
+most_marks (step.Answer codec) = 0
+most_marks (step.Lose codec) = 0
+most_marks step.Rirb = 0
+most_marks (step.Fetch stream most) = 0
+most_marks (step.Link frames) = 0
+most_marks (step.Plug codec pin) = 0
+most_marks (step.Unplug codec pin) = 0
+
 -- each list is that of a candidate pin of the kind, of a codec that is there
 abbrev pub AreHeardAs : PinKind → List CodecState → List Listing → Type 0
 AreHeardAs kind codecs lists = All (λ listing. is_candidate_of_kind kind codecs listing.codec listing.pin ≡ true) lists
 
 -- from one world to another the lists gained the items of the link frames that carried the stream between them, as pins
 -- of the kind hear them
-pub record GrewAs (kind : PinKind) (before after : World) (old new : List Listing) : Type 0 where
+pub record FramesHeardAs (kind : PinKind) (before after : World) (old new : List Listing) : Type 0 where
   pub added : List CarriedFrame
   pub carried : after.carried ≡ before.carried ++ added
   pub lists : new ≡ grown_as kind added old
+
+-- and before them the marks of the commands that codecs took between them, while none of these link frames had passed
+pub record GrewAs (kind : PinKind) (before after : World) (old new : List Listing) : Type 0 where
+  pub added : List CarriedFrame
+  pub carried : after.carried ≡ before.carried ++ added
+  pub taken : List TakenCommand
+  pub commands : after.commands ≡ before.commands ++ taken
+  pub moments : All (λ command. command.carried ≡ length before.carried) taken
+  pub lists : new ≡ grown_as kind added (marked taken old)
 
 -- from one world to another these blocks came to the input stream, and the list got a mark for each: whether it was
 -- taken. No step has RUN rise, so what came before is never dropped

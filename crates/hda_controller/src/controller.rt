@@ -15,21 +15,23 @@ ghost use Rattle.hda_world.specs.Events.{after_write};
 ghost use Rattle.device_core.specs.Codecs.{addresses_of, place_of, handed_now};
 ghost use Rattle.hda_files.specs.Machines.{IsSound};
 ghost use Rattle.codec_graph.specs.declared.pin_kind.PinKind.TheVariants as pin_kind;
-ghost use Rattle.heard_lists.specs.Listings.{Listing, HasRoom, AreListsAs, AreListsOf, graphs_in};
+ghost use Rattle.heard_lists.specs.Listings.{Listing, HasRoom, HasMarkRoom, AreListsAs, AreListsOf, graphs_in};
 ghost use Rattle.hda_controller.specs.Controllers.{StandsFor, has_codec, renewals_of, renewals_written};
 ghost use Rattle.hda_controller.specs.Controllers.{renewals_handed, renewals_at, is_candidate_of_kind, signal_now};
-ghost use Rattle.hda_controller.specs.Hearing.{most_items, AreHeardAs, CameAs, GrewAs, renewals_stepped};
+ghost use Rattle.hda_controller.specs.Hearing.{most_items, most_marks, AreHeardAs, CameAs, GrewAs};
+ghost use Rattle.hda_controller.specs.Hearing.{renewals_stepped};
 ghost use Rattle.hda_controller.specs.Openings.{opening_world};
 
 mod hearing;
 
+use crate::marking::mark_handed;
 use crate::marks::note_arrived;
 use crate::opening::{all_signals_of, codecs_of, shape_of};
 use crate::places::{is_there, place_of};
 use crate::renewing::{renew_handed, renew_if};
 use codec_graph::PinKind;
 use codec_sound::{Kept, Signal};
-use device_core::{Device, touches_sound};
+use device_core::{Device, Handed, touches_sound};
 use hda_files::Machine;
 use hda_registers::Width;
 use hda_world::the_given_sound_stays;
@@ -250,10 +252,11 @@ impl Controller {
     }
 
     /// CORB's engine fetches the next command and hands it to its codec (HDA 1.0a, 4.4.1). The codec's signals are
-    /// worked out anew where the command sets a control.
-    pub(crate) fn corb(&mut self, memory: &[u8])
+    /// worked out anew where the command sets a control. Says which codec took it, and its word.
+    pub(crate) fn corb(&mut self, memory: &[u8]) -> Option<Handed>
         ensures stands { (world : World) → StandsFor memory.now self.old world
             → StandsFor memory.now self.new (steps.corb_step world) }
+        ensures handed { result ≡ handed_now self.old.device.registers memory.now self.old.device.codecs }
         ensures renewals { renewals_of self.new
             ≡ renewals_handed (handed_now self.old.device.registers memory.now self.old.device.codecs)
             (renewals_of self.old) }
@@ -263,6 +266,28 @@ impl Controller {
         let _ = self.device.codecs();
         let handed = self.device.corb(memory);
         renew_handed(self.kind, handed, &self.device, self.kept.as_mut_slice());
+        handed
+    }
+
+    /// The same; where the output stream runs and the command sets a pin's control, that pin gets a mark.
+    fn take(&mut self, memory: &[u8], heard: &mut HeardLists)
+        requires { HasMarkRoom 1 heard.old }
+        ensures stands { (world : World) → StandsFor memory.now self.old world
+            → StandsFor memory.now self.new (steps.corb_step world) }
+        ensures heard { (world : World) → StandsFor memory.now self.old world
+            → GrewAs self.old.kind world (steps.corb_step world) heard.old heard.new }
+        ensures room { (items : ℕ) → HasRoom items heard.old → HasRoom items heard.new }
+        ensures mark_room { (more : ℕ) → HasMarkRoom (1 + more) heard.old → HasMarkRoom more heard.new }
+        ensures renewals { renewals_of self.new
+            ≡ renewals_handed (handed_now self.old.device.registers memory.now self.old.device.codecs)
+            (renewals_of self.old) }
+        ensures kind { self.new.kind ≡ self.old.kind }
+    {
+        let runs = self.device.registers().is_stream_running(1);
+        let handed = self.corb(memory);
+        if runs {
+            mark_handed(heard, handed);
+        }
     }
 
     /// A codec sends its first waiting item (HDA 1.0a, 4.4.2).
@@ -341,7 +366,8 @@ impl Controller {
     /// is not there changes nothing. Each list is that of a candidate pin of a codec, and hears each block that a link
     /// frame carries, and each frame that misses its blocks: it has room for four items a link frame. For each block
     /// that comes to the input stream a mark is put last, whether it was taken: there is room for four of these a link
-    /// frame. Takes no memory.
+    /// frame. Where CORB's engine hands a command on that sets a pin's control while the output stream runs, the pin
+    /// gets a mark, for which there is room. Takes no memory.
     pub fn step(
         &mut self,
         memory: &mut [u8],
@@ -350,6 +376,7 @@ impl Controller {
         came: &mut Vec<bool>,
     )
         requires room { HasRoom (most_items step.now) heard.old }
+        requires mark_room { HasMarkRoom (most_marks step.now) heard.old }
         requires space { vec_len came.old + most_items step.now ≤ vec_capacity came.old }
         requires lists { AreHeardAs self.old.kind self.old.device.codecs heard.old }
         ensures stands { (world : World) → StandsFor memory.old self.old world
@@ -357,6 +384,8 @@ impl Controller {
         ensures heard { (world : World) → StandsFor memory.old self.old world
             → GrewAs self.old.kind world (steps.after_step step.now world) heard.old heard.new }
         ensures room { (more : ℕ) → HasRoom (most_items step.now + more) heard.old → HasRoom more heard.new }
+        ensures mark_room { (more : ℕ) → HasMarkRoom (most_marks step.now + more) heard.old
+            → HasMarkRoom more heard.new }
         ensures lists { AreHeardAs self.new.kind self.new.device.codecs heard.new }
         ensures renewals { renewals_of self.new ≡ renewals_stepped step.now memory.old self.old }
         ensures kind { self.new.kind ≡ self.old.kind }
@@ -377,6 +406,7 @@ impl Controller {
     /// Makes the step.
     fn make(&mut self, memory: &mut [u8], step: &Step, heard: &mut HeardLists, came: &mut Vec<bool>)
         requires room { HasRoom (most_items step.now) heard.old }
+        requires mark_room { HasMarkRoom (most_marks step.now) heard.old }
         requires space { vec_len came.old + most_items step.now ≤ vec_capacity came.old }
         requires lists { AreHeardAs self.old.kind self.old.device.codecs heard.old }
         ensures stands { (world : World) → StandsFor memory.old self.old world
@@ -384,6 +414,8 @@ impl Controller {
         ensures heard { (world : World) → StandsFor memory.old self.old world
             → GrewAs self.old.kind world (steps.after_step step.now world) heard.old heard.new }
         ensures room { (more : ℕ) → HasRoom (most_items step.now + more) heard.old → HasRoom more heard.new }
+        ensures mark_room { (more : ℕ) → HasMarkRoom (most_marks step.now + more) heard.old
+            → HasMarkRoom more heard.new }
         ensures renewals { renewals_of self.new ≡ renewals_stepped step.now memory.old self.old }
         ensures kind { self.new.kind ≡ self.old.kind }
         ensures came { (world : World) → StandsFor memory.old self.old world
@@ -392,7 +424,7 @@ impl Controller {
             → vec_len came.new + more ≤ vec_capacity came.new }
     {
         match *step {
-            Step::Corb => self.corb(memory),
+            Step::Corb => self.take(memory, heard),
             Step::Answer(codec) => self.answer(codec),
             Step::Lose(codec) => self.lose(codec),
             Step::Rirb => self.rirb(memory),

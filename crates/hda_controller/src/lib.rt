@@ -4,6 +4,7 @@
 
 mod commands;
 mod controller;
+mod marking;
 mod marks;
 mod opening;
 mod places;
@@ -12,4 +13,4 @@ mod room;
 
 pub use commands::is_set_command;
 pub use controller::Controller;
-pub use room::most_items;
+pub use room::{most_items, most_marks};

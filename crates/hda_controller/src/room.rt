@@ -20,3 +20,19 @@ pub fn most_items(step: &Step) -> u64
         | Step::Unplug(_, _) => 0,
     }
 }
+
+/// For how many marks of pins a step asks room: one where CORB's engine may hand a command on. This project's own.
+pub fn most_marks(step: &Step) -> u64
+    ensures { result ≡ spec.most_marks step.now }
+{
+    match *step {
+        Step::Corb => 1,
+        Step::Answer(_)
+        | Step::Lose(_)
+        | Step::Rirb
+        | Step::Fetch(_, _)
+        | Step::Link(_)
+        | Step::Plug(_, _)
+        | Step::Unplug(_, _) => 0,
+    }
+}

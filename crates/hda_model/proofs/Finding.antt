@@ -30,7 +30,7 @@ find_none {A} p (x ∷ xs) i end before =
 
 -- a list where one is asked for and none is there
 abbrev pub nowhere : Listing
-nowhere = record { codec = 0; pin = 0; list = []; room = 0 }
+nowhere = record { codec = 0; pin = 0; list = []; room = 0; marks = []; mark_room = 0 }
 
 pub handed_size : (lists : List Listing) → length (map handed_out lists) ≡ length lists
 handed_size lists = length-map lists handed_out

@@ -13,12 +13,12 @@ use Rattle.hda_files.specs.declared.machine.Machine.{Machine}
 use Rattle.heard_frames.specs.declared.heard.Heard.{Heard}
 use Rattle.heard_frames.specs.HeardLists.{heard}
 use Rattle.heard_frames.proofs.Callers.{heard-append}
-use Rattle.hda_world.specs.Worlds.{World, CarriedFrame, given_sound}
+use Rattle.hda_world.specs.Worlds.{World, TakenCommand, CarriedFrame, given_sound}
 use Rattle.hda_world.specs.Events.{after_write}
 use Rattle.hda_world.specs.Steps.{after_step}
 use Rattle.hda_world.proofs.Callers.{access_leaves}
 use Rattle.heard_lists.specs.declared.pin_list.PinHeard.{PinHeard}
-use Rattle.heard_lists.specs.Listings.{Listing, AreListsOf, AreEmpty, grown, graphs_in, handed_out, with_items, forgotten, pins_of}
+use Rattle.heard_lists.specs.Listings.{Listing, AreListsOf, AreEmpty, grown, marked, graphs_in, handed_out, with_items, with_marks, forgotten, pins_of}
 use Rattle.hda_controller.specs.Controllers.{ControllerState, StandsFor}
 use Rattle.hda_controller.specs.Hearing.{Grew, GrewAs, CameAs}
 use Rattle.hda_controller.specs.Openings.{opening_world}
@@ -120,13 +120,15 @@ heard_more codec nid from carried added list within is =
 abbrev with_frames : List CarriedFrame → Listing → PinHeard
 with_frames added listing = handed_out (with_items (heard listing.codec listing.pin added) listing)
 
-handed_grown : (added : List CarriedFrame) (lists : List Listing) → map handed_out (grown added lists) ≡ map (with_frames added) lists
-handed_grown added lists = map-map handed_out (λ (listing : Listing). with_items (heard listing.codec listing.pin added) listing) lists
+handed_grown : (added : List CarriedFrame) (taken : List TakenCommand) (lists : List Listing) → map handed_out (grown added (marked taken lists)) ≡ map (with_frames added) lists
+handed_grown added taken lists =
+    map-map handed_out (λ (listing : Listing). with_items (heard listing.codec listing.pin added) listing) (marked taken lists)
+    ∙ map-map (with_frames added) (with_marks taken) lists
 
 heard_since : (from : ℕ) (world after : World) (lists new : List Listing) → from ≤ length world.carried → AreHeardSince from world (map handed_out lists)
     → Grew world after lists new → AreHeardSince from after (map handed_out new)
 heard_since from world after lists new within are grew =
-    subst (λ (pins : List PinHeard). AreHeardSince from after pins) (sym (ap (map handed_out) grew.lists ∙ handed_grown grew.added lists))
+    subst (λ (pins : List PinHeard). AreHeardSince from after pins) (sym (ap (map handed_out) grew.lists ∙ handed_grown grew.added grew.taken lists))
     (subst (λ (frames : List CarriedFrame). All (λ pin. pin.list ≡ heard pin.codec pin.pin (drop from frames)) (map (with_frames grew.added) lists)) (sym grew.carried)
     (All-map (λ (pin : PinHeard). pin.list ≡ heard pin.codec pin.pin (drop from (world.carried ++ grew.added))) (with_frames grew.added) lists
     (λ k d inside. heard_more (get_or lists k d).codec (get_or lists k d).pin from world.carried grew.added (get_or lists k d).list within
@@ -154,13 +156,15 @@ stepped_since old new controller before reserved after marks kept noted model fr
 pub names_handed : (lists : List Listing) → names_of (map handed_out lists) ≡ pins_of lists
 names_handed lists = map-map (λ (pin : PinHeard). (pin.codec, pin.pin)) handed_out lists
 
-names_grown : (added : List CarriedFrame) (lists : List Listing) → pins_of (grown added lists) ≡ pins_of lists
-names_grown added lists = map-map (λ (listing : Listing). (listing.codec, listing.pin)) (λ (listing : Listing). with_items (heard listing.codec listing.pin added) listing) lists
+names_grown : (added : List CarriedFrame) (taken : List TakenCommand) (lists : List Listing) → pins_of (grown added (marked taken lists)) ≡ pins_of lists
+names_grown added taken lists =
+    map-map (λ (listing : Listing). (listing.codec, listing.pin)) (λ (listing : Listing). with_items (heard listing.codec listing.pin added) listing) (marked taken lists)
+    ∙ map-map (λ (listing : Listing). (listing.codec, listing.pin)) (with_marks taken) lists
 
 pub names_since : (world next : World) (before reserved after : List Listing) → map handed_out reserved ≡ map handed_out before → Grew world next reserved after
     → names_of (map handed_out after) ≡ names_of (map handed_out before)
 names_since world next before reserved after same grew =
-    names_handed after ∙ (ap pins_of grew.lists ∙ (names_grown grew.added reserved ∙ (sym (names_handed reserved) ∙ ap names_of same)))
+    names_handed after ∙ (ap pins_of grew.lists ∙ (names_grown grew.added grew.taken reserved ∙ (sym (names_handed reserved) ∙ ap names_of same)))
 
 pub stepped : (step : Step) (old new : List ℕ) (controller next : ControllerState) (before reserved after : List Listing) (marks kept noted : List Bool)
     → map handed_out reserved ≡ map handed_out before → kept ≡ marks → ((world : World) → StandsFor old controller world → StandsFor new next (after_step step world))

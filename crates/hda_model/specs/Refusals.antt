@@ -1,5 +1,5 @@
 -- Which calls of a device model are refused, and why. This project's own.
-use Rattle.std.specs.Prelude.{◌≡◌, ◌≢◌, ◌<◌, ◌≤◌, ◌⊎◌, ℕ, Bool, not, nat_lt, if◌then◌else◌, List, length, codes}
+use Rattle.std.specs.Prelude.{◌≡◌, ◌≢◌, ◌<◌, ◌≤◌, ◌⊎◌, ◌+◌, ℕ, Bool, not, nat_lt, if◌then◌else◌, List, length, codes}
 use Rattle.std.specs.Prelude.{Err, Option, Some, None}
 use Rattle.codec_graph.specs.CodecStates.{CodecState}
 use Rattle.world_steps.specs.declared.Step.{Step}
@@ -8,7 +8,7 @@ use Rattle.hda_files.specs.FaultText.{file_fault_text}
 use Rattle.hda_files.specs.Machines.{Reads}
 use Rattle.hda_files.specs.declared.fault.FileFault.TheVariants as files
 use Rattle.hda_controller.specs.Controllers.{has_codec}
-use Rattle.hda_controller.specs.Hearing.{most_items}
+use Rattle.hda_controller.specs.Hearing.{most_items, most_marks}
 use Rattle.hda_model.specs.declared.faults.OpenFault.{OpenFault}
 use Rattle.hda_model.specs.declared.faults.OpenFault.TheVariants.{TooLong, File}
 use Rattle.hda_model.specs.declared.faults.StepFault.{StepFault}
@@ -46,6 +46,7 @@ refusal_of (step.Link frames) codecs = None
 refusal_of (step.Plug codec nid) codecs = refused_if (not (has_codec codec codecs)) NoCodec
 refusal_of (step.Unplug codec nid) codecs = refused_if (not (has_codec codec codecs)) NoCodec
 
--- a step is refused for what it names, or because memory was wanting where it asks room for what pins hear
+-- a step is refused for what it names, or because memory was wanting where it asks room for what pins hear and for their
+-- marks
 abbrev pub IsCause : Step → List CodecState → StepFault → Type 0
-IsCause step codecs fault = (refusal_of step codecs ≡ Some fault) ⊎ ((fault ≡ OutOfMemory) × (0 < most_items step))
+IsCause step codecs fault = (refusal_of step codecs ≡ Some fault) ⊎ ((fault ≡ OutOfMemory) × (0 < most_items step + most_marks step))

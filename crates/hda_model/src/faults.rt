@@ -58,7 +58,7 @@ pub enum StepFault {
     NoCodec,
     /// The step names a stream that is neither 0, the input stream's, nor 1, the output stream's.
     NoStream,
-    /// Memory was wanting for what the pins hear in its link frames.
+    /// Memory was wanting for what the pins hear in its link frames, or for the mark of a pin.
     OutOfMemory,
 }
 

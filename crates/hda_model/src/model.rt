@@ -1,5 +1,5 @@
 //! A device model.
-ghost use Rattle.std.specs.Prelude.{◌≡◌, ◌<◌, ℕ, List, IfOk, IfErr, OnOk, OnErr, IfSome, Err};
+ghost use Rattle.std.specs.Prelude.{◌≡◌, ◌<◌, ◌+◌, ℕ, List, IfOk, IfErr, OnOk, OnErr, IfSome, Err};
 ghost use Rattle.std.specs.Prelude.{is_some, nat_lt, length, map, drop, get_or};
 ghost use Rattle.hda_registers.specs.Access.{value_at};
 ghost use Rattle.hda_registers.specs.Status.{interrupt_line_of};
@@ -7,7 +7,7 @@ ghost use Rattle.hda_world.specs.Worlds.{World};
 ghost use Rattle.hda_files.specs.Machines.{IsSound};
 ghost use Rattle.heard_lists.specs.declared.pin_list.PinHeard.{PinHeard};
 ghost use Rattle.hda_controller.specs.Controllers.{has_codec};
-ghost use Rattle.hda_controller.specs.Hearing.{most_items};
+ghost use Rattle.hda_controller.specs.Hearing.{most_items, most_marks};
 ghost use Rattle.hda_model.specs.Models as models;
 ghost use Rattle.hda_model.specs.Copies as copies;
 ghost use Rattle.hda_model.specs.Refusals as refusals;
@@ -16,7 +16,7 @@ use crate::faults::{MOST_TEXT_BYTES, OpenFault, StepFault};
 use crate::heard_items::{HeardItem, copy_heard};
 use crate::places::{PinName, pin_at};
 use crate::room::make_room;
-use hda_controller::{Controller, most_items};
+use hda_controller::{Controller, most_items, most_marks};
 use hda_files::{Machine, read_machine};
 use hda_registers::Width;
 use heard_lists::HeardLists;
@@ -128,11 +128,12 @@ impl DeviceModel {
 
     /// Makes a step of the device, as the world does at this step. What it reads and writes of memory is the memory's
     /// that is lent. It takes memory of its own only for what pins may hear, four items at each of them for a link
-    /// frame, and for four marks a link frame of blocks that may come.
+    /// frame, for four marks a link frame of blocks that may come, and for the mark of a pin where CORB's engine may hand
+    /// a command on.
     ///
     /// # Errors
-    /// Where there is no such codec or stream, or memory was wanting for a step that lets link frames pass. Nothing
-    /// changes then.
+    /// Where there is no such codec or stream, or memory was wanting for a step that lets link frames pass or may hand a
+    /// command on. Nothing changes then.
     pub fn step(&mut self, memory: &mut [u8], step: &Step) -> Result<(), StepFault>
         ensures made { OnOk result (models.IsStepped step.now memory.old memory.new self.old self.new) }
         ensures model { OnErr result (self.new ≡ self.old) }
@@ -153,14 +154,19 @@ impl DeviceModel {
     /// Makes a step.
     ///
     /// # Errors
-    /// Want of memory, where the step lets link frames pass. Nothing changes then.
+    /// Want of memory, where the step lets link frames pass or hands a command on. Nothing changes then.
     fn make(&mut self, memory: &mut [u8], step: &Step) -> Result<(), AllocError>
         ensures made { OnOk result (models.IsStepped step.now memory.old memory.new self.old self.new) }
         ensures model { OnErr result (self.new ≡ self.old) }
         ensures memory { OnErr result (memory.new ≡ memory.old) }
-        ensures some { OnErr result (0 < most_items step.now) }
+        ensures some { OnErr result (0 < most_items step.now + most_marks step.now) }
     {
-        make_room(&mut self.heard, &mut self.came, most_items(step))?;
+        make_room(
+            &mut self.heard,
+            &mut self.came,
+            most_items(step),
+            most_marks(step),
+        )?;
         self.controller
             .step(memory, step, &mut self.heard, &mut self.came);
         Ok(())

@@ -3,7 +3,7 @@ ghost use Rattle.std.specs.Prelude.{◌≡◌, map, Contains, IfOk, IfSome, OnOk
 ghost use Rattle.hda_controller.specs.Hearing.{AreHeardAs};
 ghost use Rattle.device_core.specs.Codecs.{addresses_of};
 
-use hda_controller::{Controller, most_items};
+use hda_controller::{Controller, most_items, most_marks};
 use hda_files::{Machine, read_machine};
 use hda_registers::Width;
 use hda_registers::places::{
@@ -63,7 +63,7 @@ impl Desk {
         ensures codec { OnOk result (Contains (addresses_of self.new.controller.device.codecs) self.new.codec) }
     {
         for step in steps {
-            self.lists.reserve(most_items(step))?;
+            self.lists.reserve(most_items(step), most_marks(step))?;
             self.came.reserve(most_items(step) as usize)?;
             self.controller
                 .step(memory, step, &mut self.lists, &mut self.came);

@@ -82,21 +82,21 @@ fn stereo() -> Format {
 fn heard(alloc: Global) -> Result<(Machine, HeardPins), Fail> {
     let machine = read_machine(alloc, TWO_PINS.as_bytes())?;
     let mut lists = HeardLists::new(alloc, &machine)?;
-    lists.reserve(2)?;
+    lists.reserve(2, 0)?;
     lists.hear(&Silent, stereo(), &[0; 8]);
-    lists.reserve(1)?;
+    lists.reserve(1, 0)?;
     lists.hear(&NotFollowed, stereo(), &[0; 4]);
-    lists.reserve(1)?;
+    lists.reserve(1, 0)?;
     lists.miss();
-    lists.reserve(3)?;
+    lists.reserve(3, 0)?;
     lists.hear(&NotFollowed, stereo(), &[0; 12]);
-    lists.reserve(1)?;
+    lists.reserve(1, 0)?;
     lists.hear(&FirstPair, stereo(), &[0x00, 0x80, 0xFF, 0x7F]);
-    lists.reserve(1)?;
+    lists.reserve(1, 0)?;
     lists.miss();
-    lists.reserve(1)?;
+    lists.reserve(1, 0)?;
     lists.miss();
-    lists.reserve(1)?;
+    lists.reserve(1, 0)?;
     lists.hear(&Silent, stereo(), &[1, 0, 2, 0]);
     Ok((machine, lists.into_lists()))
 }

@@ -1,2 +1,3 @@
 pub mod HeardLists
+pub mod Marks
 pub mod Callers

@@ -1,1 +1,2 @@
 pub mod HeardLists
+pub mod Marks

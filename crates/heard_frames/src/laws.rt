@@ -1,5 +1,5 @@
 //! Laws of heard lists, each the contract of a function that does nothing.
-ghost use Rattle.std.specs.Prelude.{◌≡◌, ◌<◌, ◌/◌, ◌++◌, get_or, pos, negsuc, ℕ};
+ghost use Rattle.std.specs.Prelude.{◌≡◌, ◌≤◌, ◌<◌, ◌/◌, ◌++◌, All, get_or, pos, negsuc, ℕ};
 ghost use Rattle.std.specs.Prelude.{List, [], ◌∷◌, length, Option};
 ghost use Rattle.std.specs.Prelude.{Some, MatchOption, option_map};
 ghost use Rattle.codec_graph.specs.CodecStates.{CodecState};
@@ -8,7 +8,8 @@ ghost use Rattle.stream_format.specs.Layouts.{Layout, layout, layout_of};
 ghost use Rattle.stream_format.specs.Samples.{sample_of};
 ghost use Rattle.stream_format.specs.Words.{format_word, HasNoFormat};
 ghost use Rattle.world_streams.specs.Output.{Sent, Missed};
-ghost use Rattle.hda_world.specs.Worlds.{CarriedFrame};
+ghost use Rattle.hda_world.specs.Worlds.{CarriedFrame, TakenCommand};
+ghost use Rattle.heard_frames.specs.Marks.{marks_of_as};
 ghost use Rattle.codec_graph.specs.declared.pin_kind.PinKind.{PinKind};
 ghost use Rattle.codec_sound.specs.declared.signals.Signal.{Signal};
 ghost use Rattle.codec_sound.specs.declared.signals.Signal.TheVariants.{Silence, Pair};
@@ -88,4 +89,18 @@ pub fn heard_lists_of_each_kind_go_on()
     ensures frame { (kind : PinKind) (address pin : ℕ) (before : List CarriedFrame) (frame : CarriedFrame)
         → heard_as kind address pin (before ++ frame ∷ []) ≡ heard_as kind address pin before ++ frame_items_as kind
         address pin frame }
+{}
+
+/// The marks of a pin are those of the first commands, which codecs took while no more than the first link frames had
+/// passed, and then those of the later ones. Link frames more change none.
+pub fn marks_go_on()
+    ensures commands { (kind : PinKind) (address pin : ℕ) (before later : List TakenCommand)
+        (frames added : List CarriedFrame)
+        → All (λ command. command.carried ≤ length frames) before
+        → marks_of_as kind address pin (before ++ later) (frames ++ added)
+        ≡ marks_of_as kind address pin before frames ++ marks_of_as kind address pin later (frames ++ added) }
+    ensures frames { (kind : PinKind) (address pin : ℕ) (commands : List TakenCommand)
+        (frames added : List CarriedFrame)
+        → All (λ command. command.carried ≤ length frames) commands
+        → marks_of_as kind address pin commands (frames ++ added) ≡ marks_of_as kind address pin commands frames }
 {}

@@ -181,7 +181,7 @@ room-more lists i items new inside some before k d within = by_place (nat_eq k i
 pub AreEmpty-empty : (address : ℕ) (pins : List ℕ) → AreEmpty (empty_lists address pins)
 AreEmpty-empty address pins =
     All-map (λ (listing : Listing). listing.list ≡ [])
-    (λ (pin : ℕ). record { codec = address; pin = pin; list = []; room = 0 }) pins (λ k d within. refl)
+    (λ (pin : ℕ). record { codec = address; pin = pin; list = []; room = 0; marks = []; mark_room = 0 }) pins (λ k d within. refl)
 
 -- a list that has no less room than the one that it replaces
 pub room-kept : (lists : List Listing) (i more : ℕ) (new : Listing) → i < length lists

@@ -4,6 +4,7 @@ mod Pieced
 mod Placed
 mod Taken
 mod Joined
+mod Noted
 mod Stretched
 mod Raw
 mod Rooms

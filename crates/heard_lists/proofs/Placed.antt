@@ -6,7 +6,7 @@ use Rattle.heard_lists.specs.Listings.{Listing, handed_out}
 
 -- some list
 abbrev pub any_list : Listing
-any_list = record { codec = 0; pin = 0; list = []; room = 0 }
+any_list = record { codec = 0; pin = 0; list = []; room = 0; marks = []; mark_room = 0 }
 
 -- the list at a place as it is handed out
 pub handed_at : (lists : List Listing) (pins : List PinHeard) (place : ℕ) (pin : PinHeard) → map handed_out lists ≡ pins → place < length pins

@@ -1,13 +1,15 @@
-//! The heard lists of a machine: what each candidate pin of its codecs hears of the stream, block by block. This
-//! project's own.
+//! The heard lists of a machine: what each candidate pin of its codecs hears of the stream, block by block, and at
+//! which items it was switched off and on. This project's own.
 #![tactic(auto)]
 
 mod blocks;
 mod heard_pins;
+mod item_lists;
 mod laws;
 mod lists;
 mod pieces;
 mod pin_list;
+mod pin_marks;
 mod reader;
 mod sounds;
 mod stretches;

@@ -12,7 +12,7 @@ ghost use Rattle.heard_lists.specs.Pieces.{pieces_items, pieces_size};
 ghost use Rattle.heard_lists.specs.declared.stretches.Stretch.{Stretch};
 ghost use Rattle.heard_lists.specs.Stretches as spec;
 
-use crate::lists::{after, signal_at};
+use crate::item_lists::{after, signal_at};
 use crate::pieces::Piece;
 use codec_sound::Signal;
 use std::alloc::AllocError;

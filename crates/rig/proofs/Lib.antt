@@ -9,3 +9,4 @@ pub mod Turns
 pub mod Opened
 pub mod Listed
 pub mod Following
+mod MarkedOn

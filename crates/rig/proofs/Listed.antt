@@ -7,11 +7,12 @@ use Rattle.std.proofs.Math.Logic.{∥∥₁_elim}
 use Rattle.std.proofs.lemmas.List.Elements.{Contains-append_left, Contains-append_right, recursion_from_All}
 use Rattle.std.proofs.lemmas.Bool.{or_right}
 use Rattle.heard_frames.specs.HeardLists.{heard_as}
+use Rattle.heard_frames.specs.Marks.{marks_of_as}
 use Rattle.codec_graph.specs.Order.{IsOrderAs}
 use Rattle.codec_graph.specs.declared.pin_kind.PinKind.{PinKind}
-use Rattle.hda_world.specs.Worlds.{CarriedFrame, codec_at}
+use Rattle.hda_world.specs.Worlds.{TakenCommand, CarriedFrame, codec_at}
 use Rattle.hda_files.specs.declared.machine.CodecFile.{CodecFile}
-use Rattle.heard_lists.specs.Listings.{Listing, AreListsAs, graphs_in, places_of, places_in, pins_of, is_of, items_in, list_of}
+use Rattle.heard_lists.specs.Listings.{Listing, AreListsAs, graphs_in, places_of, places_in, pins_of, is_of, items_in, list_of, marks_in, marks_listed}
 use Rattle.hda_controller.specs.Controllers.{is_candidate_in, is_candidate_of_kind}
 use Rattle.hda_controller.specs.Openings.{codec_in, codecs_in}
 
@@ -115,3 +116,30 @@ pub list_heard : (kind : PinKind) (codec pin : ℕ) (frames : List CarriedFrame)
     → Contains (pins_of lists) (codec, pin) → list_of codec pin lists ≡ heard_as kind codec pin frames
 list_heard kind codec pin frames lists are there =
     found_all kind codec pin frames lists (recursion_from_All _ lists are) (among codec pin (pins_of lists) there)
+
+-- ---- its marks
+
+marked_by : (kind : PinKind) (codec pin : ℕ) (commands : List TakenCommand) (frames : List CarriedFrame) (listing : Listing) (lists : List Listing) (here : Bool) → is_of codec pin listing ≡ here
+    → listing.marks ≡ marks_of_as kind listing.codec listing.pin commands frames
+    → (is_among codec pin (pins_of lists) ≡ true → marks_listed codec pin lists ≡ marks_of_as kind codec pin commands frames)
+    → (here || is_among codec pin (pins_of lists)) ≡ true
+    → marks_in (if here then Some listing else find (is_of codec pin) lists) ≡ marks_of_as kind codec pin commands frames
+marked_by kind codec pin commands frames listing lists true is marked_is rest found =
+    let first : listing.codec ≡ codec = search (rules, tests) in
+    let second : listing.pin ≡ pin = search (rules, tests) in
+    marked_is ∙ (ap (λ (a : ℕ). marks_of_as kind a listing.pin commands frames) first ∙ ap (λ (b : ℕ). marks_of_as kind codec b commands frames) second)
+marked_by kind codec pin commands frames listing lists false is marked_is rest found = rest found
+
+marked_all : (kind : PinKind) (codec pin : ℕ) (commands : List TakenCommand) (frames : List CarriedFrame) (lists : List Listing)
+    → AllByRecursion (λ listing. listing.marks ≡ marks_of_as kind listing.codec listing.pin commands frames) lists
+    → is_among codec pin (pins_of lists) ≡ true → marks_listed codec pin lists ≡ marks_of_as kind codec pin commands frames
+unfolding is_among
+marked_all kind codec pin commands frames [] are is = (let never : false ≡ true = is in cc)
+marked_all kind codec pin commands frames (listing ∷ lists) are is =
+    marked_by kind codec pin commands frames listing lists (is_of codec pin listing) refl are.0 (marked_all kind codec pin commands frames lists are.1) is
+
+pub list_marked : (kind : PinKind) (codec pin : ℕ) (commands : List TakenCommand) (frames : List CarriedFrame) (lists : List Listing)
+    → All (λ listing. listing.marks ≡ marks_of_as kind listing.codec listing.pin commands frames) lists
+    → Contains (pins_of lists) (codec, pin) → marks_listed codec pin lists ≡ marks_of_as kind codec pin commands frames
+list_marked kind codec pin commands frames lists are there =
+    marked_all kind codec pin commands frames lists (recursion_from_All _ lists are) (among codec pin (pins_of lists) there)

@@ -1,12 +1,18 @@
 -- Room that is left.
 use Rattle.std.proofs.Common.{◌≡◌, ◌≤◌, ◌+◌, ℕ, Bool, List, vec_len, vec_capacity, arith}
 use Rattle.std.specs.Prelude.{Vec}
+use Rattle.world_steps.specs.declared.Step.{Step}
+use Rattle.world_steps.specs.declared.Step.TheVariants as step
 use Rattle.hda_world.specs.Journals.{JournalState, Used}
-use Rattle.heard_lists.specs.Listings.{Listing, HasRoom}
+use Rattle.hda_controller.specs.Hearing.{most_marks}
+use Rattle.heard_lists.specs.Listings.{Listing, HasRoom, HasMarkRoom}
 use Rattle.rig.specs.Recordings.{HasRoomFor}
 
 pub fewer_items : (more fewer : ℕ) (lists : List Listing) → fewer ≤ more → HasRoom more lists → HasRoom fewer lists
 fewer_items more fewer lists less room k d within = omega (arith, room k d within, less)
+
+pub fewer_marks : (more fewer : ℕ) (lists : List Listing) → fewer ≤ more → HasMarkRoom more lists → HasMarkRoom fewer lists
+fewer_marks more fewer lists less room k d within = omega (arith, room k d within, less)
 
 -- room for more is room for less
 pub less_room : {Z : Type 0} (entries bytes items fewer_entries fewer_bytes fewer : ℕ) (journal : JournalState) (lists : List Listing) (marks : Vec Bool Z) → fewer_entries ≤ entries → fewer_bytes ≤ bytes
@@ -15,14 +21,16 @@ less_room entries bytes items fewer_entries fewer_bytes fewer journal lists mark
   entries_fit = (let h = room.entries_fit in omega (arith, h, e));
   bytes_fit = (let h = room.bytes_fit in omega (arith, h, b));
   items_fit = fewer_items items fewer lists i room.items_fit;
+  switches_fit = fewer_marks entries fewer_entries lists e room.switches_fit;
   marks_fit = (let h = room.marks_fit in omega (arith, h, i));
 }
 
 -- what is left when an entry was noted, with so many bytes of a piece
 pub room_noted : {Z : Type 0} (entries bytes items asked piece : ℕ) (old new : JournalState) (before lists : List Listing) (front marks : Vec Bool Z) → Used 1 piece old new
-    → (HasRoom asked before → HasRoom items lists) → (vec_len front + asked ≤ vec_capacity front → vec_len marks + items ≤ vec_capacity marks)
+    → (HasRoom asked before → HasRoom items lists) → (HasMarkRoom (1 + entries) before → HasMarkRoom entries lists) → (vec_len front + asked ≤ vec_capacity front → vec_len marks + items ≤ vec_capacity marks)
     → HasRoomFor (1 + entries) (piece + bytes) asked old before front → HasRoomFor entries bytes items new lists marks
-room_noted entries bytes items asked piece old new before lists front marks used heard noted room = record {
+room_noted entries bytes items asked piece old new before lists front marks used heard switched noted room = record {
+  switches_fit = switched room.switches_fit;
   marks_fit = noted room.marks_fit;
   entries_fit = (let h = room.entries_fit in let u = used.entries_left in omega (arith, h, u));
   bytes_fit = (let h = room.bytes_fit in let u = used.bytes_left in omega (arith, h, u));
@@ -50,3 +58,23 @@ turn_asked total done one all_items items item first middle before between one_m
 
 pub start_room : {Z : Type 0} (entries bytes more : ℕ) (journal : JournalState) (lists : List Listing) (marks : Vec Bool Z) → HasRoomFor (0 + entries) bytes (0 + more) journal lists marks → HasRoomFor entries bytes more journal lists marks
 start_room entries bytes more journal lists marks room = less_room (0 + entries) bytes (0 + more) entries bytes more journal lists marks (omega arith) (omega arith) (omega arith) room
+
+-- ---- marks of a step
+
+-- no step asks room for more than one
+step_marks : (step : Step) → most_marks step ≤ 1
+step_marks step.Corb = omega arith
+step_marks (step.Answer codec) = omega arith
+step_marks (step.Lose codec) = omega arith
+step_marks step.Rirb = omega arith
+step_marks (step.Fetch stream most) = omega arith
+step_marks (step.Link frames) = omega arith
+step_marks (step.Plug codec pin) = omega arith
+step_marks (step.Unplug codec pin) = omega arith
+
+pub step_switches : (step : Step) (entries : ℕ) (before after : List Listing) → ((more : ℕ) → HasMarkRoom (most_marks step + more) before → HasMarkRoom more after)
+    → HasMarkRoom (1 + entries) before → HasMarkRoom entries after
+step_switches step entries before after goes room = goes entries (fewer_marks (1 + entries) (most_marks step + entries) before (let few = step_marks step in omega (arith, few)) room)
+
+pub step_asked : (step : Step) (lists : List Listing) → HasMarkRoom 1 lists → HasMarkRoom (most_marks step) lists
+step_asked step lists room = fewer_marks 1 (most_marks step) lists (step_marks step) room

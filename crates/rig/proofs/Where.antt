@@ -15,19 +15,20 @@ use Rattle.heard_frames.specs.declared.heard.Heard.{Heard}
 use Rattle.heard_frames.specs.HeardLists.{heard_as}
 use Rattle.heard_frames.proofs.Callers.{heard-append}
 use Rattle.world_steps.specs.declared.Step.{Step}
-use Rattle.hda_world.specs.Worlds.{World, CarriedFrame, given_sound}
+use Rattle.hda_world.specs.Worlds.{World, TakenCommand, CarriedFrame, given_sound}
 use Rattle.hda_world.specs.Steps.{after_step}
 use Rattle.hda_world.specs.Events.{Event, Stepped, Write, DmaWrite, after, after_write, happens, IsHonest, AreHonest, IsPiece}
 use Rattle.hda_world.specs.Tellings.{Went}
 use Rattle.hda_world.proofs.Callers.{after-append, AreHonest-append, access_leaves}
 use Rattle.codec_graph.specs.declared.raw.RawCodec.{RawCodec}
 use Rattle.heard_lists.specs.declared.pin_list.PinHeard.{PinHeard}
-use Rattle.heard_lists.specs.Listings.{Listing, with_items, grown_as, handed_out, pins_of, AreListsAs, AreEmpty}
+use Rattle.heard_lists.specs.Listings.{Listing, with_items, with_marks, marked, marks_out, grown_as, handed_out, pins_of, AreListsAs, AreEmpty, AreUnmarked}
 use Rattle.hda_controller.specs.Controllers.{ControllerState, StandsFor, is_candidate_of_kind}
 use Rattle.hda_controller.specs.Hearing.{AreHeardAs, CameAs, GrewAs}
 use Rattle.hda_files.specs.declared.machine.Machine.{Machine}
-use Rattle.rig.specs.Replays.{AreHeardInAs, start_given, telling_given}
-use Rattle.rig.specs.Recordings.{IsWhere}
+use Rattle.rig.specs.Replays.{AreHeardInAs, AreMarkedInAs, HavePassed, start_given, telling_given}
+use Rattle.rig.specs.Recordings.{IsWhere, IsMarkedIn}
+use Rattle.rig.proofs.MarkedOn.{marks_go_on, marks_stay, none_marked, marks_reserved}
 
 -- ---- what is told
 
@@ -49,7 +50,9 @@ lists_go_on : (kind : PinKind) (before later : World) (old new : List Listing) �
 lists_go_on kind before later old new grew were =
     subst (AreHeardInAs kind later) (sym grew.lists)
     (All-map (λ (listing : Listing). listing.list ≡ heard_as kind listing.codec listing.pin later.carried)
-    (λ (listing : Listing). with_items (heard_as kind listing.codec listing.pin grew.added) listing) old (λ k d within. one (get_or old k d) (were k d within)))
+    (λ (listing : Listing). with_items (heard_as kind listing.codec listing.pin grew.added) listing) (marked grew.taken old)
+    (All-map (λ (listing : Listing). listing.list ++ heard_as kind listing.codec listing.pin grew.added ≡ heard_as kind listing.codec listing.pin later.carried) (with_marks grew.taken) old
+    (λ k d within. one (get_or old k d) (were k d within))))
   where
     one : (listing : Listing) → listing.list ≡ heard_as kind listing.codec listing.pin before.carried
         → listing.list ++ heard_as kind listing.codec listing.pin grew.added ≡ heard_as kind listing.codec listing.pin later.carried
@@ -83,6 +86,9 @@ module _ (kind : PinKind) (start : World) (events more : List Event) (memory : L
         heard = subst (λ (world : World). AreHeardInAs kind world grew) leads
             (lists_go_on kind here (after_step step here) lists grew
             (subst (λ (pins : PinKind). GrewAs pins here (after_step step here) lists grew) was.kind_is (goes here was.stands)) was.heard);
+        marked = subst (λ (world : World). IsMarkedIn kind world grew) leads
+            (marks_go_on kind here (after_step step here) lists grew
+            (subst (λ (pins : PinKind). GrewAs pins here (after_step step here) lists grew) was.kind_is (goes here was.stands)) was.heard was.marked);
         came = (
             let came = comes here was.stands in
             sym (ap (λ (world : World). world.came) leads) ∙ (came.came ∙ (ap (λ (front : List Bool). front ++ came.added) was.came ∙ sym came.marks)));
@@ -104,6 +110,8 @@ module _ (kind : PinKind) (start : World) (events more : List Event) (memory : L
         known = keeps lists was.known;
         heard = subst (λ (world : World). AreHeardInAs kind world lists) leads
             (lists_stay kind here (after_write at width value here) lists (access_leaves here at value width).carried was.heard);
+        marked = subst (λ (world : World). IsMarkedIn kind world lists) leads
+            (marks_stay kind here (after_write at width value here) lists (access_leaves here at value width).commands (access_leaves here at value width).carried was.marked);
         came = sym (ap (λ (world : World). world.came) leads) ∙ kept memory here at width value (stands memory here was.stands) was.came;
       }
 
@@ -126,6 +134,7 @@ module _ (kind : PinKind) (start : World) (events more : List Event) (memory : L
         kind_is = was.kind_is;
         known = was.known;
         heard = subst (λ (world : World). AreHeardInAs kind world lists) leads was.heard;
+        marked = subst (λ (world : World). IsMarkedIn kind world lists) leads (marks_stay kind here (happens here (DmaWrite at piece)) lists refl refl was.marked);
         came = sym (ap (λ (world : World). world.came) leads) ∙ was.came;
       }
 
@@ -139,15 +148,17 @@ module _ (kind : PinKind) (start : World) (events more : List Event) (memory : L
         kind_is = was.kind_is;
         known = was.known;
         heard = subst (λ (world : World). AreHeardInAs kind world lists) leads was.heard;
+        marked = subst (λ (world : World). IsMarkedIn kind world lists) leads was.marked;
         came = sym (ap (λ (world : World). world.came) leads) ∙ was.came;
       }
 
 -- ---- at the start
 
 pub where_started : (kind : PinKind) (start : World) (memory : List ℕ) (controller : ControllerState) (lists : List Listing) → StandsFor memory controller start
-    → controller.kind ≡ kind → AreHeardAs controller.kind controller.device.codecs lists → AreEmpty lists → start.carried ≡ []
-    → start.came ≡ [] → IsWhere kind start [] memory controller lists []
-where_started kind start memory controller lists stands kind_is known empty none came = record {
+    → controller.kind ≡ kind → AreHeardAs controller.kind controller.device.codecs lists → AreEmpty lists → AreUnmarked lists → start.carried ≡ []
+    → start.commands ≡ [] → start.came ≡ [] → IsWhere kind start [] memory controller lists []
+where_started kind start memory controller lists stands kind_is known empty unmarked none no_command came = record {
+  marked = none_marked kind start lists unmarked no_command;
   came = came;
   stands = stands;
   kind_is = kind_is;
@@ -168,8 +179,9 @@ alike : (P : PinHeard → Type 0) (old new : List Listing) → map handed_out ne
 alike P old new same were = unmapped P new (subst (All P) (sym same) (All-map P handed_out old were))
 
 pub where_reserved : (kind : PinKind) (start : World) (events : List Event) (memory : List ℕ) (controller : ControllerState) (old new : List Listing) (marks kept : List Bool)
-    → map handed_out new ≡ map handed_out old → kept ≡ marks → IsWhere kind start events memory controller old marks → IsWhere kind start events memory controller new kept
-where_reserved kind start events memory controller old new marks kept same stay was = record {
+    → map handed_out new ≡ map handed_out old → map marks_out new ≡ map marks_out old → kept ≡ marks → IsWhere kind start events memory controller old marks → IsWhere kind start events memory controller new kept
+where_reserved kind start events memory controller old new marks kept same same_marks stay was = record {
+  marked = marks_reserved kind (after events start) old new same_marks was.marked;
   came = was.came ∙ sym stay;
   stands = was.stands;
   kind_is = was.kind_is;
@@ -187,6 +199,10 @@ pins_grown : (kind : PinKind) (frames : List CarriedFrame) (lists : List Listing
 pins_grown kind frames [] = refl
 pins_grown kind frames (listing ∷ lists) = ap (λ (pins : List (ℕ × ℕ)). (listing.codec, listing.pin) ∷ pins) (pins_grown kind frames lists)
 
+pins_marked : (commands : List TakenCommand) (lists : List Listing) → pins_of (marked commands lists) ≡ pins_of lists
+pins_marked commands [] = refl
+pins_marked commands (listing ∷ lists) = ap (λ (pins : List (ℕ × ℕ)). (listing.codec, listing.pin) ∷ pins) (pins_marked commands lists)
+
 pub listed_by : (kind : PinKind) (graphs : List RawCodec) (old new : List Listing) → pins_of new ≡ pins_of old → AreListsAs kind graphs old → AreListsAs kind graphs new
 listed_by kind graphs old new same are = record { orders = are.orders; ordered = are.ordered; pins = same ∙ are.pins }
 
@@ -195,7 +211,7 @@ listed_reserved kind graphs old new same are =
     listed_by kind graphs old new (pins_handed new ∙ (ap (map (λ (list : PinHeard). (list.codec, list.pin))) same ∙ sym (pins_handed old))) are
 
 pub listed_stepped : (pins kind : PinKind) (graphs : List RawCodec) (before later : World) (old new : List Listing) → GrewAs pins before later old new → AreListsAs kind graphs old → AreListsAs kind graphs new
-listed_stepped pins kind graphs before later old new grew are = listed_by kind graphs old new (ap pins_of grew.lists ∙ pins_grown pins grew.added old) are
+listed_stepped pins kind graphs before later old new grew are = listed_by kind graphs old new (ap pins_of grew.lists ∙ (pins_grown pins grew.added (marked grew.taken old) ∙ pins_marked grew.taken old)) are
 
 -- ---- answers of the moment
 
@@ -266,6 +282,7 @@ where_sounded kind size machine old new memory controller moved lists marks stan
   kind_is = same ∙ was.kind_is;
   known = keeps lists was.known;
   heard = was.heard;
+  marked = marks_stay kind (start_given size machine old) (start_given size machine new) lists refl refl was.marked;
   came = was.came;
 }
 
@@ -280,3 +297,13 @@ came_there there = ∥∥₁_elim there (Coded-set (coded_list coded_bool) _ _) 
 pub heard_there : {kind : PinKind} {start : World} {events : List Event} {memory : List ℕ} {controller : ControllerState} {lists : List Listing} {marks : List Bool}
     → ∥ IsWhere kind start events memory controller lists marks ∥₁ → AreHeardInAs kind (after events start) lists
 heard_there there = ∥∥₁_elim there (Prim.hlevel props) (λ here. here.heard)
+
+-- ---- marks of pins
+
+pub marks_there : {kind : PinKind} {start : World} {events : List Event} {memory : List ℕ} {controller : ControllerState} {lists : List Listing} {marks : List Bool}
+    → ∥ IsWhere kind start events memory controller lists marks ∥₁ → AreMarkedInAs kind (after events start) lists
+marks_there there = ∥∥₁_elim there (Prim.hlevel props) (λ here. here.marked.marks)
+
+pub passed_there : {kind : PinKind} {start : World} {events : List Event} {memory : List ℕ} {controller : ControllerState} {lists : List Listing} {marks : List Bool}
+    → ∥ IsWhere kind start events memory controller lists marks ∥₁ → HavePassed (after events start)
+passed_there there = ∥∥₁_elim there (Prim.hlevel props) (λ here. here.marked.passed)

@@ -1,8 +1,9 @@
 -- Replay of a journal: where its events lead from the start of a machine. This project's own.
-use Rattle.std.specs.Prelude.{◌≡◌, ℕ, List, All, replicate}
+use Rattle.std.specs.Prelude.{◌≡◌, ◌≤◌, ℕ, List, All, length, replicate}
 use Rattle.codec_graph.specs.declared.pin_kind.PinKind.{PinKind}
 use Rattle.codec_graph.specs.declared.pin_kind.PinKind.TheVariants.{Analog}
 use Rattle.heard_frames.specs.HeardLists.{heard_as}
+use Rattle.heard_frames.specs.Marks.{marks_of_as}
 use Rattle.hda_files.specs.declared.machine.Machine.{Machine}
 use Rattle.hda_world.specs.Worlds.{World, given_sound}
 use Rattle.hda_world.specs.Events.{Event, after, AreHonest}
@@ -44,3 +45,13 @@ AreHeardInAs kind world lists = All (λ listing. listing.list ≡ heard_as kind 
 -- as an analog pin
 abbrev pub AreHeardIn : World → List Listing → Type 0
 AreHeardIn world lists = AreHeardInAs Analog world lists
+
+-- each list has the marks of its pin, as a pin of the kind, by the commands that codecs took and the link frames that the
+-- world carried
+abbrev pub AreMarkedInAs : PinKind → World → List Listing → Type 0
+AreMarkedInAs kind world lists =
+    All (λ listing. listing.marks ≡ marks_of_as kind listing.codec listing.pin world.commands world.carried) lists
+
+-- no command was taken after more link frames than passed
+abbrev pub HavePassed : World → Type 0
+HavePassed world = All (λ command. command.carried ≤ length world.carried) world.commands

@@ -12,7 +12,7 @@ use Rattle.rig.specs.declared.recording.Recording.{Recording}
 use Rattle.rig.specs.declared.rig.Rig.{Rig}
 use Rattle.rig.specs.declared.setting.Setting.{Setting}
 use Rattle.hda_controller.specs.Controllers.{StandsFor}
-use Rattle.rig.specs.Replays.{telling_given, start_given, Replays, AreHeardInAs}
+use Rattle.rig.specs.Replays.{telling_given, start_given, Replays, AreHeardInAs, AreMarkedInAs, HavePassed}
 
 -- the sound that its input pins are given
 abbrev pub sound_given : Recording → List ℕ
@@ -53,13 +53,15 @@ abbrev pub lists_of : Rig → List Listing
 lists_of rig = rig.recording.heard
 
 -- the journal replays to a world, and the rig is there: its controller with its memory stands for this world, there is
--- one list for each candidate pin of the kind, which has what that pin heard in it, and of each block that came to the
--- input stream the rig has whether it was taken
+-- one list for each candidate pin of the kind, which has what that pin heard in it and the pin's marks, and of each block
+-- that came to the input stream the rig has whether it was taken
 pub record IsReplayed (rig : Rig) : Type 0 where
   pub world : World
   pub replays : Replays (start_given REGION_BYTES (setting_of rig).machine (sound_of rig)) (telling_of rig).journal
       world
   pub stands : ∥ StandsFor rig.recording.memory.items rig.recording.controller world ∥₁
   pub heard : AreHeardInAs (setting_of rig).kind world (lists_of rig)
+  pub marked : AreMarkedInAs (setting_of rig).kind world (lists_of rig)
+  pub passed : HavePassed world
   pub taken : world.came ≡ rig.recording.came.items
   pub pins : ∥ AreListsAs (setting_of rig).kind (graphs_in (setting_of rig).machine.codecs) (lists_of rig) ∥₁

@@ -80,7 +80,8 @@ impl Recording {
         })
     }
 
-    /// Makes room for so many more entries, bytes of pieces of memory, and items in each heard list and marks.
+    /// Makes room for so many more entries, bytes of pieces of memory, items in each heard list and marks of blocks, and
+    /// for as many marks of pins as entries.
     ///
     /// # Errors
     /// Want of memory. Nothing is told anew then.
@@ -98,7 +99,7 @@ impl Recording {
     {
         self.journal.reserve(entries, bytes)?;
         self.came.reserve(items as usize)?;
-        self.heard.reserve(items)
+        self.heard.reserve(items, entries as u64)
     }
 
     /// Gives all input pins this sound, before anything happened.

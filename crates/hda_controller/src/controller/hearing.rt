@@ -7,9 +7,9 @@ ghost use Rattle.hda_world.specs.Steps as steps;
 ghost use Rattle.stream_format.specs.Cadence.{bytes_of_block};
 ghost use Rattle.stream_format.specs.Layouts.{Layout, layout_of};
 ghost use Rattle.heard_frames.specs.declared.heard.Heard.TheVariants.{Hole};
-ghost use Rattle.heard_lists.specs.Listings.{HasRoom, with_blocks, with_items};
+ghost use Rattle.heard_lists.specs.Listings.{HasRoom, HasMarkRoom, with_blocks, with_items};
 ghost use Rattle.hda_controller.specs.Controllers.{StandsFor, signal_now};
-ghost use Rattle.hda_controller.specs.Hearing.{AreDue, AreHeardAs, CameAs, GrewAs};
+ghost use Rattle.hda_controller.specs.Hearing.{AreDue, AreHeardAs, CameAs, FramesHeardAs};
 ghost use Rattle.hda_controller.specs.Unheard.{AreWhole, block_count, heard_now, layout_now};
 
 use super::Controller;
@@ -32,8 +32,9 @@ impl Controller {
         ensures stands { (memory : List ℕ) (world : World) → StandsFor memory self.old world
             → StandsFor memory self.new (steps.times frames steps.frame_step world) }
         ensures heard { (memory : List ℕ) (world : World) → StandsFor memory self.old world
-            → GrewAs self.old.kind world (steps.times frames steps.frame_step world) heard.old heard.new }
+            → FramesHeardAs self.old.kind world (steps.times frames steps.frame_step world) heard.old heard.new }
         ensures room { (more : ℕ) → HasRoom (4 * frames + more) heard.old → HasRoom more heard.new }
+        ensures mark_room { (more : ℕ) → HasMarkRoom more heard.old → HasMarkRoom more heard.new }
         ensures kept { self.new.kept ≡ self.old.kept }
         ensures kind { self.new.kind ≡ self.old.kind }
         ensures came { (memory : List ℕ) (world : World) → StandsFor memory self.old world
@@ -41,6 +42,8 @@ impl Controller {
         ensures space { (more : ℕ) → vec_len came.old + (4 * frames + more) ≤ vec_capacity came.old
             → vec_len came.new + more ≤ vec_capacity came.new }
     {
+        // The controller stands for some world, whose frames leave marks alone.
+        self.device.is_some_world();
         if frames == 1 {
             self.link_alone(heard, came);
         } else {
@@ -56,7 +59,7 @@ impl Controller {
         ensures stands { (memory : List ℕ) (world : World) → StandsFor memory self.old world
             → StandsFor memory self.new (steps.frame_step world) }
         ensures heard { (memory : List ℕ) (world : World) → StandsFor memory self.old world
-            → GrewAs self.old.kind world (steps.frame_step world) heard.old heard.new }
+            → FramesHeardAs self.old.kind world (steps.frame_step world) heard.old heard.new }
         ensures room { (more : ℕ) → HasRoom (4 + more) heard.old → HasRoom more heard.new }
         ensures kept { self.new.kept ≡ self.old.kept }
         ensures kind { self.new.kind ≡ self.old.kind }
@@ -101,7 +104,7 @@ impl Controller {
         ensures stands { (memory : List ℕ) (world : World) → StandsFor memory self.old world
             → StandsFor memory self.new (steps.times frames steps.frame_step world) }
         ensures heard { (memory : List ℕ) (world : World) → StandsFor memory self.old world
-            → GrewAs self.old.kind world (steps.times frames steps.frame_step world) heard.old heard.new }
+            → FramesHeardAs self.old.kind world (steps.times frames steps.frame_step world) heard.old heard.new }
         ensures room { (more : ℕ) → HasRoom (4 * frames + more) heard.old → HasRoom more heard.new }
         ensures kept { self.new.kept ≡ self.old.kept }
         ensures kind { self.new.kind ≡ self.old.kind }
@@ -134,7 +137,7 @@ impl Controller {
         ensures stands { (memory : List ℕ) (world : World) → StandsFor memory self.old world
             → StandsFor memory self.new (steps.frame_step world) }
         ensures heard { (memory : List ℕ) (world : World) → StandsFor memory self.old world
-            → GrewAs self.old.kind world (steps.frame_step world)
+            → FramesHeardAs self.old.kind world (steps.frame_step world)
             (heard_now self.old.kind self.old.device unheard.old.items heard.old)
             (heard_now self.new.kind self.new.device unheard.new.items heard.new) }
         ensures whole { AreWhole (layout_now self.new.device) unheard.new.items }

@@ -8,7 +8,7 @@ use Rattle.device_core.specs.Devices.{IsWorld}
 use Rattle.heard_lists.proofs.Callers.{hole-grows, gap-grows, HasRoom-fewer}
 use Rattle.codec_graph.specs.declared.pin_kind.PinKind.{PinKind}
 use Rattle.hda_controller.specs.Controllers.{ControllerState}
-use Rattle.hda_controller.specs.Hearing.{AreHeardAs, GrewAs}
+use Rattle.hda_controller.specs.Hearing.{AreHeardAs, FramesHeardAs}
 use Rattle.hda_controller.proofs.Growth.{grew_idle, grew_gap, grew_hole, blocks_heard, due_here}
 use Rattle.hda_controller.proofs.Unheard.{listed-moved}
 use Rattle.hda_controller.proofs.controller.Controller.link_alone.Goals as goal
@@ -42,7 +42,7 @@ hear_frame-requires-clause-lists c =
 pub returns-in-Blocks-clause-heard : goal.returns-in-Blocks-clause-heard
 returns-in-Blocks-clause-heard c memory world is =
     let answer = c.in-Blocks.ensures.answer memory world is in
-    subst (λ (kind : PinKind). GrewAs kind world (frame_step world) c.args.heard.now c.hear_frame.new.heard) c.frame.ensures.kind
+    subst (λ (kind : PinKind). FramesHeardAs kind world (frame_step world) c.args.heard.now c.hear_frame.new.heard) c.frame.ensures.kind
     (blocks_heard c.frame.new.self.kind world c.frame.new.self.device c.in-Blocks.blocks c.frame.new.into c.args.heard.now c.hear_frame.new.heard (drop (due (output_of world)) _)
     (c.frame.ensures.codecs ∙ sym is.codecs_are)
     (c.frame.ensures.sound.tag ∙ ap (λ (f : Fields). f.output.tag) (sym is.registers_are))

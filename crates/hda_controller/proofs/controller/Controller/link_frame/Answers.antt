@@ -10,7 +10,7 @@ use Rattle.heard_lists.specs.Listings.{Listing, with_items}
 use Rattle.heard_lists.proofs.Callers.{hole-grows, gap-grows, HasRoom-fewer}
 use Rattle.codec_graph.specs.declared.pin_kind.PinKind.{PinKind}
 use Rattle.hda_controller.specs.Controllers.{ControllerState, signal_now}
-use Rattle.hda_controller.specs.Hearing.{AreHeardAs, GrewAs}
+use Rattle.hda_controller.specs.Hearing.{AreHeardAs, FramesHeardAs}
 use Rattle.hda_controller.specs.Unheard.{AreWhole, block_count, heard_now, layout_now}
 use Rattle.hda_controller.proofs.Growth.{grew_idle, grew_gap, grew_hole, blocks_heard, due_here}
 use Rattle.hda_controller.proofs.Unheard.{count-none, heard-none, heard-same, listed-moved, room-moved, whole-moved, whole-none}
@@ -21,8 +21,8 @@ use Rattle.hda_controller.proofs.controller.Controller.link_frame.Goals as goal
 pub returns-in-Idle-clause-heard : goal.returns-in-Idle-clause-heard
 returns-in-Idle-clause-heard c memory world is =
     let lists : List Listing = heard_now c.args.self.now.kind c.args.self.now.device c.args.unheard.now.items c.args.heard.now in
-    subst (λ (kind : PinKind). GrewAs c.args.self.now.kind world (frame_step world) lists (heard_now kind c.frame.new.self.device c.args.unheard.now.items c.args.heard.now)) (sym c.frame.ensures.kind)
-    (subst (GrewAs c.args.self.now.kind world (frame_step world) lists)
+    subst (λ (kind : PinKind). FramesHeardAs c.args.self.now.kind world (frame_step world) lists (heard_now kind c.frame.new.self.device c.args.unheard.now.items c.args.heard.now)) (sym c.frame.ensures.kind)
+    (subst (FramesHeardAs c.args.self.now.kind world (frame_step world) lists)
     (sym (heard-same c.args.self.now.kind c.args.self.now.device c.frame.new.self.device c.frame.ensures.codecs c.frame.ensures.sound c.args.unheard.now.items c.args.heard.now))
     (grew_idle c.args.self.now.kind world lists (c.in-Idle.ensures.answer memory world is).0))
 
@@ -42,8 +42,8 @@ returns-in-Idle-clause-lists c =
 pub returns-in-Gap-clause-heard : goal.returns-in-Gap-clause-heard
 returns-in-Gap-clause-heard c memory world is =
     let lists : List Listing = heard_now c.args.self.now.kind c.args.self.now.device c.args.unheard.now.items c.args.heard.now in
-    subst (λ (kind : PinKind). GrewAs c.args.self.now.kind world (frame_step world) lists (heard_now kind c.frame.new.self.device c.args.unheard.now.items c.args.heard.now)) (sym c.frame.ensures.kind)
-    (subst (GrewAs c.args.self.now.kind world (frame_step world) lists)
+    subst (λ (kind : PinKind). FramesHeardAs c.args.self.now.kind world (frame_step world) lists (heard_now kind c.frame.new.self.device c.args.unheard.now.items c.args.heard.now)) (sym c.frame.ensures.kind)
+    (subst (FramesHeardAs c.args.self.now.kind world (frame_step world) lists)
     (sym (heard-same c.args.self.now.kind c.args.self.now.device c.frame.new.self.device c.frame.ensures.codecs c.frame.ensures.sound c.args.unheard.now.items c.args.heard.now))
     (grew_gap c.args.self.now.kind world lists lists (c.in-Gap.ensures.answer memory world is).0 (gap-grows c.args.self.now.kind (frame_carried world (Sent [])) lists refl)))
 
@@ -87,8 +87,8 @@ returns-in-Blocks-clause-heard c memory world is =
     let answer = c.in-Blocks.ensures.answer memory world is in
     let device : DeviceState = c.frame.new.self.device in
     let lists : List Listing = heard_now c.frame.new.self.kind device c.keep.new.unheard.items c.keep.new.heard in
-    subst (λ (kind : PinKind). GrewAs kind world (frame_step world) (heard_now kind c.args.self.now.device c.args.unheard.now.items c.args.heard.now) lists) c.frame.ensures.kind
-    (subst (λ (before : List Listing). GrewAs c.frame.new.self.kind world (frame_step world) before lists)
+    subst (λ (kind : PinKind). FramesHeardAs kind world (frame_step world) (heard_now kind c.args.self.now.device c.args.unheard.now.items c.args.heard.now) lists) c.frame.ensures.kind
+    (subst (λ (before : List Listing). FramesHeardAs c.frame.new.self.kind world (frame_step world) before lists)
     (heard-same c.frame.new.self.kind c.args.self.now.device device c.frame.ensures.codecs c.frame.ensures.sound c.args.unheard.now.items c.args.heard.now)
     (blocks_heard c.frame.new.self.kind world device c.in-Blocks.blocks c.frame.new.into (heard_now c.frame.new.self.kind device c.args.unheard.now.items c.args.heard.now) lists (drop (due (output_of world)) c.args.bytes.now)
     (c.frame.ensures.codecs ∙ sym is.codecs_are)
@@ -126,9 +126,9 @@ returns-in-Hole-clause-heard c memory world is =
     (heard-same c.frame.new.self.kind c.args.self.now.device device c.frame.ensures.codecs c.frame.ensures.sound c.args.unheard.now.items c.args.heard.now) in
     let none : heard_now c.frame.new.self.kind device c.miss.new.unheard.items c.miss.new.heard ≡ c.miss.new.heard =
     ap (λ (bytes : List ℕ). heard_now c.frame.new.self.kind device bytes c.miss.new.heard) c.miss.ensures.none ∙ heard-none (layout_now device) (signal_now c.frame.new.self.kind device) c.miss.new.heard in
-    subst (λ (kind : PinKind). GrewAs kind world (frame_step world) (heard_now kind c.args.self.now.device c.args.unheard.now.items c.args.heard.now)
+    subst (λ (kind : PinKind). FramesHeardAs kind world (frame_step world) (heard_now kind c.args.self.now.device c.args.unheard.now.items c.args.heard.now)
     (heard_now c.frame.new.self.kind device c.miss.new.unheard.items c.miss.new.heard)) c.frame.ensures.kind
-    (subst (GrewAs c.frame.new.self.kind world (frame_step world) lists) (sym none)
+    (subst (FramesHeardAs c.frame.new.self.kind world (frame_step world) lists) (sym none)
     (grew_hole c.frame.new.self.kind world lists c.miss.new.heard (c.in-Hole.ensures.answer memory world is).0 (missed ∙ hole-grows c.frame.new.self.kind (frame_carried world Missed) lists refl)))
 
 pub returns-in-Hole-clause-whole : goal.returns-in-Hole-clause-whole

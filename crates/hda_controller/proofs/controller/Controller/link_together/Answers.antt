@@ -4,7 +4,7 @@ use Rattle.hda_world.specs.Worlds.{World}
 use Rattle.hda_world.specs.Steps.{times, frame_step}
 use Rattle.heard_lists.specs.Listings.{Listing, HasRoom}
 use Rattle.hda_controller.specs.Controllers.{StandsFor, signal_now}
-use Rattle.hda_controller.specs.Hearing.{CameAs, GrewAs}
+use Rattle.hda_controller.specs.Hearing.{CameAs, FramesHeardAs}
 use Rattle.hda_controller.specs.Unheard.{AreWhole, block_count, heard_now, layout_now}
 use Rattle.hda_controller.proofs.Growth.{grew_still, grew_on, came_still, came_on, times-one_more}
 use Rattle.hda_controller.proofs.Unheard.{count-none, heard-none, whole-none}
@@ -20,7 +20,7 @@ loop-passed-init c =
     let count : block_count (layout_now device) c.new-unheard.result.items ≡ 0 = ap (block_count (layout_now device)) none ∙ count-none (layout_now device) in
     record {
       stands = λ memory world is. is;
-      heard = λ memory world is. subst (GrewAs c.args.self.now.kind world world c.args.heard.now) (sym heard) (grew_still c.args.self.now.kind world world c.args.heard.now refl);
+      heard = λ memory world is. subst (FramesHeardAs c.args.self.now.kind world world c.args.heard.now) (sym heard) (grew_still c.args.self.now.kind world world c.args.heard.now refl);
       whole = subst (AreWhole (layout_now device)) (sym none) (whole-none (layout_now device));
       room = λ more has.
           HasRoom-fewer (block_count (layout_now device) c.new-unheard.result.items + (4 * (c.args.frames - 0) + more)) (4 * c.args.frames + more) c.args.heard.now (omega (arith, count)) has;
@@ -56,10 +56,10 @@ loop-passed-preserved c =
           subst (λ (w : World). StandsFor memory c.link_frame.new.self w) (sym (times-one_more passed frame_step world))
           (c.link_frame.ensures.stands memory (times passed frame_step world) (c.loop-passed.invariant.stands memory world is));
       heard = λ memory world is.
-          subst (λ (w : World). GrewAs c.args.self.now.kind world w c.args.heard.now new) (sym (times-one_more passed frame_step world))
+          subst (λ (w : World). FramesHeardAs c.args.self.now.kind world w c.args.heard.now new) (sym (times-one_more passed frame_step world))
           (grew_on c.args.self.now.kind world (times passed frame_step world) (frame_step (times passed frame_step world)) c.args.heard.now old new
           (c.loop-passed.invariant.heard memory world is)
-          (subst (λ (kind : PinKind). GrewAs kind (times passed frame_step world) (frame_step (times passed frame_step world)) old new) c.loop-passed.invariant.kind
+          (subst (λ (kind : PinKind). FramesHeardAs kind (times passed frame_step world) (frame_step (times passed frame_step world)) old new) c.loop-passed.invariant.kind
           (c.link_frame.ensures.heard memory (times passed frame_step world) (c.loop-passed.invariant.stands memory world is))));
       whole = c.link_frame.ensures.whole;
       room = λ more has.
@@ -98,8 +98,8 @@ returns-clause-heard c memory world is =
     let device = c.loop-passed.self.device in
     let lists : c.hear.new.heard ≡ heard_now c.loop-passed.self.kind device c.loop-passed.unheard.items c.loop-passed.heard =
     c.hear.ensures.heard ∙ ap (λ (bytes : List ℕ). heard_now c.loop-passed.self.kind device bytes c.loop-passed.heard) c.as_slice.ensures.value in
-    subst (λ (l : List Listing). GrewAs c.args.self.now.kind world (times c.args.frames frame_step world) c.args.heard.now l) (sym lists)
-    (subst (λ (n : ℕ). GrewAs c.args.self.now.kind world (times n frame_step world) c.args.heard.now (heard_now c.loop-passed.self.kind device c.loop-passed.unheard.items c.loop-passed.heard)) end
+    subst (λ (l : List Listing). FramesHeardAs c.args.self.now.kind world (times c.args.frames frame_step world) c.args.heard.now l) (sym lists)
+    (subst (λ (n : ℕ). FramesHeardAs c.args.self.now.kind world (times n frame_step world) c.args.heard.now (heard_now c.loop-passed.self.kind device c.loop-passed.unheard.items c.loop-passed.heard)) end
     (c.loop-passed.invariant.heard memory world is))
 
 pub returns-clause-room : goal.returns-clause-room

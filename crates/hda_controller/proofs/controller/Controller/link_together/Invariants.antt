@@ -2,7 +2,7 @@ use Rattle.std.proofs.Common.{◌≡◌, ◌≤◌, ◌+◌, ◌-◌, ◌*◌, �
 use Rattle.hda_world.specs.Worlds.{World}
 use Rattle.heard_lists.specs.Listings.{HasRoom}
 use Rattle.hda_controller.specs.Controllers.{StandsFor}
-use Rattle.hda_controller.specs.Hearing.{AreHeardAs, CameAs, GrewAs}
+use Rattle.hda_controller.specs.Hearing.{AreHeardAs, CameAs, FramesHeardAs}
 use Rattle.hda_controller.specs.Unheard.{AreWhole, block_count, heard_now, layout_now}
 use Rattle.hda_world.specs.Steps.{times, frame_step}
 use Rattle.hda_controller.proofs.controller.Controller.link_together.Given as goal
@@ -12,7 +12,7 @@ abbrev pub invariant-loop-passed : goal.invariant-loop-passed
 invariant-loop-passed l = record {
   stands : (memory : List ℕ) (world : World) → StandsFor memory l.initial.self world → StandsFor memory l.self (times l._passed frame_step world);
   heard : (memory : List ℕ) (world : World) → StandsFor memory l.initial.self world
-      → GrewAs l.initial.self.kind world (times l._passed frame_step world) l.initial.heard (heard_now l.self.kind l.self.device l.unheard.items l.heard);
+      → FramesHeardAs l.initial.self.kind world (times l._passed frame_step world) l.initial.heard (heard_now l.self.kind l.self.device l.unheard.items l.heard);
   whole : AreWhole (layout_now l.self.device) l.unheard.items;
   room : (more : ℕ) → HasRoom (4 * l.frames + more) l.initial.heard
       → HasRoom (block_count (layout_now l.self.device) l.unheard.items + (4 * (l.frames - l._passed) + more)) l.heard;

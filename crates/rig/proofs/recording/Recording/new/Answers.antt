@@ -15,7 +15,7 @@ invariant_of-result c =
       whole = c.in_ok-zeroed.ensures.length;
       honest = honest_same _ [] _ none tt;
       stands = merely (where_given _ 4194304 c.args.machine [] _ _ _ _ _ _ (sym stands.captured.given_is)
-          (where_marked _ _ _ _ _ _ _ _ marks (where_same _ _ [] _ _ _ _ _ none (where_started _ _ _ _ _ stands c.in_ok-controller.ensures.kind (c.in_ok-controller.ensures.lists _ c.in_ok-heard.ensures.pins) c.in_ok-heard.ensures.empty refl refl))));
+          (where_marked _ _ _ _ _ _ _ _ marks (where_same _ _ [] _ _ _ _ _ none (where_started _ _ _ _ _ stands c.in_ok-controller.ensures.kind (c.in_ok-controller.ensures.lists _ c.in_ok-heard.ensures.pins) c.in_ok-heard.ensures.empty c.in_ok-heard.ensures.unmarked refl refl refl))));
       pins = merely c.in_ok-heard.ensures.pins;
     }
 

@@ -8,6 +8,6 @@ invariant_of-self-2 c =
     record {
       whole = c.args.self.now.whole;
       honest = honest_same _ _ _ same c.args.self.now.honest;
-      stands = ∥∥₁_map c.args.self.now.stands (λ was. where_same _ _ _ _ _ _ _ _ same (where_reserved _ _ _ _ _ _ _ _ _ c.reserve-3.ensures.lists c.reserve-2.ensures.items was));
+      stands = ∥∥₁_map c.args.self.now.stands (λ was. where_same _ _ _ _ _ _ _ _ same (where_reserved _ _ _ _ _ _ _ _ _ c.reserve-3.ensures.lists c.reserve-3.ensures.marks c.reserve-2.ensures.items was));
       pins = ∥∥₁_map c.args.self.now.pins (λ are. listed_reserved _ _ _ _ c.reserve-3.ensures.lists are);
     }

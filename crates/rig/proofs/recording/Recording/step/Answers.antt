@@ -5,7 +5,7 @@ use Rattle.hda_world.specs.Worlds.{World}
 use Rattle.hda_world.specs.Steps.{after_step}
 use Rattle.hda_controller.specs.Controllers.{StandsFor}
 use Rattle.hda_controller.specs.Hearing.{GrewAs}
-use Rattle.rig.proofs.Rooming.{room_noted}
+use Rattle.rig.proofs.Rooming.{room_noted, step_asked, step_switches}
 use Rattle.rig.proofs.Opened.{fewer_bytes}
 use Rattle.rig.proofs.Where.{honest_more, honest_given, where_given, where_stepped, listed_stepped, whole_write}
 use Rattle.rig.proofs.recording.Recording.step.Goals as goal
@@ -33,4 +33,7 @@ invariant_of-self c =
     }
 
 pub returns-clause-room : goal.returns-clause-room
-returns-clause-room c entries bytes items room = room_noted entries bytes items _ 0 _ _ _ _ _ _ c.note_step.ensures.used (c.step.ensures.room items) (c.step.ensures.space items) (fewer_bytes (1 + entries) bytes (0 + bytes) _ _ _ _ (omega arith) room)
+returns-clause-room c entries bytes items room = room_noted entries bytes items _ 0 _ _ _ _ _ _ c.note_step.ensures.used (c.step.ensures.room items) (step_switches c.args.step.now entries _ _ c.step.ensures.mark_room) (c.step.ensures.space items) (fewer_bytes (1 + entries) bytes (0 + bytes) _ _ _ _ (omega arith) room)
+
+pub step-requires-clause-mark_room : goal.step-requires-clause-mark_room
+step-requires-clause-mark_room c = step_asked c.args.step.now _ c.requires.switches_fit
