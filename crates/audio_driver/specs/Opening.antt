@@ -1,6 +1,8 @@
 -- How a driver is opened: the blocks that it takes, and where it begins. This project's own.
 use Rattle.std.specs.Prelude.{◌≡◌, ◌⊎◌, ◌+◌, ℕ, List, []}
 use Rattle.dma_pool.specs.Pools.{PoolState}
+use Rattle.hda_world.specs.declared.world.TheConstants.{REGION_BYTES}
+use Rattle.command_engine.specs.Fetchings.{HasBlocks}
 use Rattle.command_engine.specs.Opening as of_engine
 use Rattle.period_writer.specs.declared.geometry.Geometry.{Geometry}
 use Rattle.period_writer.specs.Writers.{WriterState}
@@ -38,6 +40,7 @@ HasRuns geometry pool =
 -- where a driver begins: nothing was done yet, and nothing was played
 pub record IsOpened (geometry : Geometry) (most : ℕ) (bring_up : BringUp) (writer : WriterState) : Type 0 where
   pub phase : bring_up.phase ≡ Reset
+  pub blocks : HasBlocks bring_up.engine.corb.address bring_up.engine.rirb.address REGION_BYTES
   pub rings : bring_up.engine.rings ≡ of_engine.rings_opened
   pub format : bring_up.format ≡ geometry.format
   pub kept : bring_up.kept ≡ 0

@@ -23,7 +23,7 @@ pub record IsBesideRing (address bytes : ℕ) (writer : WriterState) : Type 0 wh
 pub record IsEngineIdle (parts : Parts) : Type 0 where
   pub started : parts.engine.rings.started ≡ true
   pub idle : parts.engine.rings.outstanding ≡ None
-  pub quiet : parts.engine.events.items ≡ []
+  pub quiet : parts.engine.events ≡ []
 
 -- the blocks of both are taken runs of the pool, apart from one another
 pub record HasItsBlocks (parts : Parts) : Type 0 where

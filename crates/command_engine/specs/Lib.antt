@@ -1,4 +1,6 @@
 pub mod Blocks
+pub mod Engines
+pub mod Inside
 pub mod Opening
 pub mod Sizes
 pub mod Entries

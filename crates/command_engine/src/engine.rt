@@ -1,7 +1,5 @@
 //! The engine.
-ghost use Rattle.std.specs.Prelude.{◌≡◌, ◌<◌, true};
-ghost use Rattle.hda_registers.specs.Fields.{entries_of};
-ghost use Rattle.command_engine.specs.Blocks.{corb_bytes, rirb_bytes, most_events, are_apart};
+ghost use Rattle.std.specs.Prelude.{◌≡◌};
 
 mod opening;
 mod polling;
@@ -12,6 +10,7 @@ use crate::answers::{Event, Outstanding};
 use crate::ring_places::RingPlaces;
 use circular_buffer::HeapCircularBuffer;
 use dma_pool::Lent;
+use std::marker::Model;
 
 /// The bytes of CORB: 256 commands.
 pub const CORB_BYTES: u32 = 1_024;
@@ -21,17 +20,24 @@ pub const RIRB_BYTES: u32 = 2_048;
 pub const MOST_EVENTS: usize = 256;
 
 /// The driver's side of both rings (HDA 1.0a, 4.4). It owns their blocks, which it gives back when it is closed, and
-/// keeps nothing of a platform between its calls.
+/// keeps nothing of a platform between its calls. Contracts see its blocks, where both rings stand, and its events.
 pub struct Engine {
     corb: Lent,
     rirb: Lent,
     rings: RingPlaces,
     events: HeapCircularBuffer<Event>,
-    pub ghost corb_bytes: { corb.bytes ≡ corb_bytes },
-    pub ghost rirb_bytes: { rirb.bytes ≡ rirb_bytes },
-    pub ghost apart: { are_apart corb.address rirb.address ≡ true },
-    pub ghost room: { events.capacity ≡ most_events },
-    pub ghost read_within: { rings.read < entries_of rings.rirb },
+}
+
+impl Model for Engine {
+    ghost use Rattle.command_engine.specs.Engines.{EngineState};
+
+    ghost Value = { EngineState };
+
+    ghost use Rattle.command_engine.specs.Inside.{state_inside, IsEngineInside};
+
+    ghost view = { state_inside };
+
+    ghost invariant = { IsEngineInside };
 }
 
 impl Engine {

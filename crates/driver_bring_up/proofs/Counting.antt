@@ -79,6 +79,22 @@ counted_there rows events event codec tag is_codec is_tag of_pin sixteen wide co
     (subst (λ (t : ℕ). AreTimes (events ++ event ∷ []) (with_counter rows event.codec t (counter_of rows event.codec t + 1))) (sym is_tag)
     (counted rows events event counts low within))
 
+-- ---- a counter grows
+
+pub grown : (rows : List (List ℕ)) (c t times : ℕ) → c < length rows → t < length (row_of rows c) → (codec tag : ℕ)
+    → counter_of (with_counter rows c t (counter_of rows c t + times)) codec tag ≡ counter_of rows codec tag + cond (c == codec && t == tag) times 0
+grown rows c t times low within codec tag = by (c == codec) (t == tag) refl refl where
+  by : (same_codec same_tag : Bool) → (c == codec) ≡ same_codec → (t == tag) ≡ same_tag
+      → counter_of (with_counter rows c t (counter_of rows c t + times)) codec tag ≡ counter_of rows codec tag + cond (same_codec && same_tag) times 0
+  by true true is_codec is_tag =
+      subst (λ (codec : ℕ). counter_of (with_counter rows c t (counter_of rows c t + times)) codec tag ≡ counter_of rows codec tag + times) (eqb-true c codec is_codec)
+      (subst (λ (tag : ℕ). counter_of (with_counter rows c t (counter_of rows c t + times)) c tag ≡ counter_of rows c tag + times) (eqb-true t tag is_tag)
+      (set_here rows c t (counter_of rows c t + times) low within))
+  by true false is_codec is_tag =
+      subst (λ (codec : ℕ). counter_of (with_counter rows c t (counter_of rows c t + times)) codec tag ≡ counter_of rows codec tag + 0) (eqb-true c codec is_codec)
+      (set_beside rows c t (counter_of rows c t + times) tag low (λ is. eqb-false t tag is_tag (sym is)) ∙ omega arith)
+  by false same_tag is_codec is_tag = set_away rows c t (counter_of rows c t + times) codec tag (λ is. eqb-false c codec is_codec (sym is)) ∙ omega arith
+
 -- ---- the events that are left
 
 pub first_is : (xs : List Event) (x : Event) → slice_get xs 0 ≡ Some x → xs ≡ x ∷ drop 1 xs

@@ -15,5 +15,6 @@ pub mod Entries
 mod FailingLooks
 mod AllJacks
 mod Counting
+mod ListTimes
 pub mod OfPins
 mod Steps

@@ -1,7 +1,7 @@
 -- How often pins told of something unasked, by codec and tag. High Definition Audio 1.0a, 4.4.2 and 7.3.3.14; the list
 -- is this project's own.
-use Rattle.std.specs.Prelude.{◌≡◌, ◌≤◌, ◌<◌, ◌⊎◌, ℕ, Bool, ◌==◌, ◌&&◌, List, [], All, AllPairs, Any, slice_index}
-use Rattle.std.specs.Prelude.{slice_index_or, count_by}
+use Rattle.std.specs.Prelude.{◌≡◌, ◌≤◌, ◌<◌, ◌⊎◌, ◌+◌, ℕ, Bool, ◌==◌, ◌&&◌, List, [], All, AllPairs, Any}
+use Rattle.std.specs.Prelude.{slice_index, slice_index_or, count_by, if◌then◌else◌}
 use Rattle.command_engine.specs.declared.answers.Event.{Event}
 use Rattle.driver_progress.specs.declared.jack.Jack.{Jack}
 
@@ -46,3 +46,15 @@ pub record Counts (events : List Event) (jacks : List Jack) : Type 0 where
   pub ascend : AllPairs IsBefore jacks
   pub times : All (IsTold events) jacks
   pub whole : All (λ (event : Event). Any (IsOf event.codec event.tag) jacks) events
+
+-- ---- counters that go on from a list
+
+-- a jack adds to the counter of its own codec and tag
+abbrev pub times_at : (codec tag : ℕ) → Jack → ℕ
+times_at codec tag jack = if jack.codec == codec && jack.tag == tag then jack.times else 0
+
+-- an event can name it, and so many more can be counted
+pub record CanAdd (taken : ℕ) (jack : Jack) : Type 0 where
+  pub codec : jack.codec ≤ 15
+  pub tag : jack.tag ≤ 63
+  pub few : taken + jack.times ≤ 4294967295

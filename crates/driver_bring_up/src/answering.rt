@@ -42,7 +42,7 @@ pub fn look_for_answer<P: Platform, T: Setter>(
     phase: Phase,
 ) -> Result<Answer, AllocError>
     requires asks { IsSome (standing.next_on agenda.old) }
-    requires events { engine.old.events.items ≡ [] }
+    requires events { engine.old.events ≡ [] }
     requires few { jacks.old.taken + most_events ≤ 4294967295 }
     requires room { ASK_ACCESSES ≤ P.spare_accesses platform.old }
     requires bytes_room { POLL_BYTES ≤ P.spare_bytes platform.old }
@@ -54,7 +54,7 @@ pub fn look_for_answer<P: Platform, T: Setter>(
         (P.told platform.new)) }
     ensures idle { IfOk result (λ answer. answer.is_free ≡ true → engine.new.rings.outstanding ≡ None) }
     ensures started { engine.new.rings.started ≡ engine.old.rings.started }
-    ensures events { engine.new.events.items ≡ [] }
+    ensures events { engine.new.events ≡ [] }
     ensures taken { jacks.new.taken ≤ jacks.old.taken + most_events }
     ensures corb { engine.new.corb ≡ engine.old.corb }
     ensures rirb { engine.new.rirb ≡ engine.old.rirb }

@@ -36,7 +36,7 @@ pub struct BringUp {
     pub ghost started: { is_asking phase ≡ true → engine.rings.started ≡ true },
     pub ghost runs: { is_ready phase ≡ true → engine.rings.started ≡ true },
     pub ghost idle: { is_ready phase ≡ true → engine.rings.outstanding ≡ None },
-    pub ghost quiet: { engine.events.items ≡ [] },
+    pub ghost quiet: { engine.events ≡ [] },
     pub ghost early: { is_early phase ≡ true },
     pub ghost sent_within: { sent ≤ looks },
     pub ghost few_looks: { looks ≤ 1000001 },

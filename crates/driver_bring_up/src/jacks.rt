@@ -1,6 +1,6 @@
 //! The counters.
 ghost use Rattle.std.specs.Prelude.{◌≡◌, ◌≤◌, ◌<◌, ◌+◌, ◌++◌, ℕ, List, [], ◌∷◌, length, replicate, All, IfOk, vec_len};
-ghost use Rattle.std.specs.Prelude.{vec_capacity};
+ghost use Rattle.std.specs.Prelude.{vec_capacity, min};
 ghost use Rattle.command_engine.specs.declared.answers.Event.{Event};
 ghost use Rattle.std.proofs.Props.{props};
 ghost use Rattle.driver_bring_up.specs.Jacks as spec;
@@ -50,14 +50,30 @@ impl Jacks {
         })
     }
 
+    /// Counters that go on from a list of jacks: where it is that of at most 4,294,967,295 events, they have counted
+    /// these. This project's own.
+    ///
+    /// # Errors
+    /// Want of memory.
+    pub fn of_list(alloc: Global, list: &[Jack]) -> Result<Jacks, AllocError>
+        ensures { IfOk result (λ jacks. (events : List Event) → spec.Counts events list.now → All spec.IsOfPin events
+            → length events ≤ 4294967295 → IsCount events jacks) }
+    {
+        let mut jacks = Jacks::new(alloc)?;
+        for jack in list {
+            jacks.add(*jack);
+        }
+        Ok(jacks)
+    }
+
     /// Takes all events that are left of the engine, in order, and counts them.
     pub fn take_events(&mut self, engine: &mut Engine)
-        requires few { self.old.taken + length engine.old.events.items ≤ 4294967295 }
-        requires of_pins { All spec.IsOfPin engine.old.events.items }
+        requires few { self.old.taken + length engine.old.events ≤ 4294967295 }
+        requires of_pins { All spec.IsOfPin engine.old.events }
         ensures counts { (events : List Event) → IsCount events self.old
-            → IsCount (events ++ engine.old.events.items) self.new }
-        ensures taken { self.new.taken ≡ self.old.taken + length engine.old.events.items }
-        ensures events { engine.new.events.items ≡ [] }
+            → IsCount (events ++ engine.old.events) self.new }
+        ensures taken { self.new.taken ≡ self.old.taken + length engine.old.events }
+        ensures events { engine.new.events ≡ [] }
         ensures rings { engine.new.rings ≡ engine.old.rings }
         ensures corb { engine.new.corb ≡ engine.old.corb }
         ensures rirb { engine.new.rirb ≡ engine.old.rirb }
@@ -67,15 +83,34 @@ impl Jacks {
         }
     }
 
-    /// Counts an event.
-    fn note(&mut self, event: Event)
-        requires few { self.old.taken < 4294967295 }
-        requires of_pin { spec.IsOfPin event }
-        ensures counts { (events : List Event) → IsCount events self.old → IsCount (events ++ event ∷ []) self.new }
-        ensures taken { self.new.taken ≡ self.old.taken + 1 }
+    /// Counts an event, if it is one of the first 4,294,967,295: later ones are not counted. This project's own.
+    pub fn note(&mut self, event: Event)
+        requires { spec.IsOfPin event }
+        ensures counts { self.old.taken < 4294967295
+            → (events : List Event) → IsCount events self.old → IsCount (events ++ event ∷ []) self.new }
+        ensures taken { self.new.taken ≡ min (self.old.taken + 1) 4294967295 }
+        ensures full { self.old.taken ≡ 4294967295 → self.new ≡ self.old }
     {
-        self.times[usize::from(event.codec)][usize::from(event.tag)] += 1;
-        self.taken += 1;
+        if self.taken < u32::MAX {
+            self.times[usize::from(event.codec)][usize::from(event.tag)] += 1;
+            self.taken += 1;
+        }
+    }
+
+    /// Counts all events of a jack, as far as there are still some of the first 4,294,967,295. What no event can name is
+    /// not counted.
+    fn add(&mut self, jack: Jack)
+        ensures taken { spec.CanAdd self.old.taken jack → self.new.taken ≡ self.old.taken + jack.times }
+        ensures counters { spec.CanAdd self.old.taken jack → (codec tag : ℕ) → counter_of self.new.times codec tag
+            ≡ counter_of self.old.times codec tag + spec.times_at codec tag jack }
+    {
+        let codec = usize::from(jack.codec);
+        let tag = usize::from(jack.tag);
+        if codec < CODECS && tag < TAGS {
+            let times = jack.times.min(u32::MAX - self.taken);
+            self.times[codec][tag] += times;
+            self.taken += times;
+        }
     }
 
     /// The jacks that were told, codecs ascending and each one's tags ascending, with how often.

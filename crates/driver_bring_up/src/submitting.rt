@@ -34,7 +34,7 @@ pub fn submit_next<P: Platform>(
     ensures submitted { result ≡ is_some (spec.order_if is_free (standing.next_on agenda.now)) }
     ensures corb { engine.new.corb ≡ engine.old.corb }
     ensures rirb { engine.new.rirb ≡ engine.old.rirb }
-    ensures events { engine.new.events.items ≡ engine.old.events.items }
+    ensures events { engine.new.events ≡ engine.old.events }
     ensures fixed { P.fixed platform.new ≡ P.fixed platform.old }
     ensures accesses { P.spare_accesses platform.old ≤ P.spare_accesses platform.new + SUBMIT_ACCESSES }
     ensures bytes { P.spare_bytes platform.old ≤ P.spare_bytes platform.new + SUBMIT_BYTES }

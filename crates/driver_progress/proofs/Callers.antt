@@ -47,3 +47,5 @@ pub use Rattle.driver_progress.proofs.AccessRows.{unread_access}
 pub use Rattle.driver_progress.proofs.AccessRows.{plain_access}
 -- an access fits what is expected
 pub use Rattle.driver_progress.proofs.AccessRows.{access_fits}
+-- a poll as two: the read of RIRBSTS, and a plain row after which what was written is as it was
+pub use Rattle.driver_progress.proofs.Polled.{PollSplit, poll_split}

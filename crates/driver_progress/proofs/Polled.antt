@@ -147,29 +147,42 @@ read_last : (flag : ℕ) (steps : List Step) (world : World) → after (map Step
 read_last flag [] world = refl
 read_last flag (step ∷ steps) world = read_last flag steps (happens world (Stepped step))
 
+-- a poll as two: the read of RIRBSTS, which changes nothing, and a row of plain accesses after which what was written is as it was
+pub record PollSplit (rirb : ℕ) (rings : RingPlaces) (reads : PollReads) (old new : Telling) : Type 0 where
+  pub middle : Telling
+  pub first : Accessed old middle (Read RIRBSTS One reads.flag)
+  pub there : world_of middle ≡ after (map Stepped first.steps) (world_of old)
+  pub rest : Makes (if has_bit reads.flag 0 then batch_accesses rirb rings reads.pointer reads.entries else []) middle new
+  pub plain : ArePlain (if has_bit reads.flag 0 then batch_accesses rirb rings reads.pointer reads.entries else [])
+  pub same : (world_of new).written ≡ (world_of middle).written
+
+pub poll_split : (rirb : ℕ) (rings : RingPlaces) (reads : PollReads) (old new : Telling) → Makes (poll_accesses rirb rings reads) old new → IsBit (world_of old) → PollSplit rirb rings reads old new
+poll_split rirb rings reads old new makes bit = by makes.by
+  where
+    by : MakesBy (poll_accesses rirb rings reads) old new → PollSplit rirb rings reads old new
+    by (middle, first, rest) = record {
+      middle = middle;
+      first = first;
+      there = world_of-went old middle _ first.went ∙ read_last reads.flag first.steps (world_of old);
+      rest = record { by = rest };
+      plain = rest_plain (has_bit reads.flag 0) rirb rings reads.pointer reads.entries;
+      same = rest_written (has_bit reads.flag 0) rirb rings reads.pointer reads.entries middle new (flag_set reads.flag (world_of middle) (flag_shown reads.flag old middle first bit)) rest;
+    }
+
 -- over a poll a trail gains its accesses, and whether the outstanding command was answered is said by what is written at its end
 pub poll_trail : (task : Task) (lines : List DriverLine) (rirb : ℕ) (rings : RingPlaces) (reads : PollReads) (old new : Telling) → Makes (poll_accesses rirb rings reads) old new → IsBit (world_of old)
     → (trail_of task lines new ≡ record (with_accesses (trail_of task lines old) (poll_accesses rirb rings reads)) { answered = is_answered (trail_of task lines old) (world_of new) })
     × (ConformsTo task lines old → ConformsTo task lines new)
-poll_trail task lines rirb rings reads old new makes bit = by makes.by
-  where
-    by : MakesBy (poll_accesses rirb rings reads) old new
-        → (trail_of task lines new ≡ record (with_accesses (trail_of task lines old) (poll_accesses rirb rings reads)) { answered = is_answered (trail_of task lines old) (world_of new) })
-        × (ConformsTo task lines old → ConformsTo task lines new)
-    by (middle, first, rest) =
-        let old-trail = trail_of task lines old in
-        let shown = flag_shown reads.flag old middle first bit in
-        let row = trail_row task lines (if has_bit reads.flag 0 then batch_accesses rirb rings reads.pointer reads.entries else []) middle new (record { by = rest }) (rest_plain (has_bit reads.flag 0) rirb rings reads.pointer reads.entries) in
-        let same : (world_of new).written ≡ (world_of middle).written =
-        rest_written (has_bit reads.flag 0) rirb rings reads.pointer reads.entries middle new (flag_set reads.flag (world_of middle) shown) rest in
-        let there : world_of middle ≡ after (map Stepped first.steps) (world_of old) =
-        world_of-went old middle _ first.went ∙ read_last reads.flag first.steps (world_of old) in
-        let here : trail_of task lines middle ≡ record (with_accesses old-trail (Read RIRBSTS One reads.flag ∷ [])) { answered = is_answered old-trail (world_of middle) } =
-        trail_went task lines old middle _ first.went
-        ∙ trail_stepped task first.steps (Read RIRBSTS One reads.flag) (world_of old) old-trail
-        ∙ ap (λ (world : World). record (with_accesses old-trail (Read RIRBSTS One reads.flag ∷ [])) { answered = is_answered old-trail world }) (sym there) in (
-          row.0 ∙ ap (λ (trail : Trail). with_accesses trail (if has_bit reads.flag 0 then batch_accesses rirb rings reads.pointer reads.entries else [])) here
-              ∙ ap (λ (made : List Event). record old-trail { made = made; answered = is_answered old-trail (world_of middle) }) (append_assoc old-trail.made (Read RIRBSTS One reads.flag ∷ []) (if has_bit reads.flag 0 then batch_accesses rirb rings reads.pointer reads.entries else []))
-              ∙ ap (λ (written : List Response). record (with_accesses old-trail (poll_accesses rirb rings reads)) { answered = list_any (answers_it (asked_of old-trail.state.rings.outstanding)) (drop old-trail.written written) }) (sym same),
-          λ conforms. row.1 (conforms_went task lines old middle _ first.went (conforms_stepped task first.steps (Read RIRBSTS One reads.flag) (world_of old) old-trail tt) conforms),
-        )
+poll_trail task lines rirb rings reads old new makes bit =
+    let split = poll_split rirb rings reads old new makes bit in
+    let old-trail = trail_of task lines old in
+    let row = trail_row task lines (if has_bit reads.flag 0 then batch_accesses rirb rings reads.pointer reads.entries else []) split.middle new split.rest split.plain in
+    let here : trail_of task lines split.middle ≡ record (with_accesses old-trail (Read RIRBSTS One reads.flag ∷ [])) { answered = is_answered old-trail (world_of split.middle) } =
+    trail_went task lines old split.middle _ split.first.went
+    ∙ trail_stepped task split.first.steps (Read RIRBSTS One reads.flag) (world_of old) old-trail
+    ∙ ap (λ (world : World). record (with_accesses old-trail (Read RIRBSTS One reads.flag ∷ [])) { answered = is_answered old-trail world }) (sym split.there) in (
+      row.0 ∙ ap (λ (trail : Trail). with_accesses trail (if has_bit reads.flag 0 then batch_accesses rirb rings reads.pointer reads.entries else [])) here
+          ∙ ap (λ (made : List Event). record old-trail { made = made; answered = is_answered old-trail (world_of split.middle) }) (append_assoc old-trail.made (Read RIRBSTS One reads.flag ∷ []) (if has_bit reads.flag 0 then batch_accesses rirb rings reads.pointer reads.entries else []))
+          ∙ ap (λ (written : List Response). record (with_accesses old-trail (poll_accesses rirb rings reads)) { answered = list_any (answers_it (asked_of old-trail.state.rings.outstanding)) (drop old-trail.written written) }) (sym split.same),
+      λ conforms. row.1 (conforms_went task lines old split.middle _ split.first.went (conforms_stepped task split.first.steps (Read RIRBSTS One reads.flag) (world_of old) old-trail tt) conforms),
+    )

@@ -26,13 +26,13 @@ pub struct Asked {
 /// found is that of the responses that were written since the look before, and an answer belongs to the outstanding
 /// command.
 pub fn ask<P: Platform>(platform: &mut P, engine: &mut Engine) -> Asked
-    requires events { engine.old.events.items ≡ [] }
+    requires events { engine.old.events ≡ [] }
     requires room { ASK_ACCESSES ≤ P.spare_accesses platform.old }
     requires bytes_room { POLL_BYTES ≤ P.spare_bytes platform.old }
-    ensures asks { spec.Asks engine.old.rirb.address engine.old.rings result engine.new.rings engine.new.events.items
+    ensures asks { spec.Asks engine.old.rirb.address engine.old.rings result engine.new.rings engine.new.events
         (P.told platform.old) (P.told platform.new) }
     ensures tells { Between (told.PollTellsOf result.clock engine.old.corb.address engine.old.rirb.address
-        engine.old.rings result.poll engine.new.rings engine.new.events.items) (P.told platform.old)
+        engine.old.rings result.poll engine.new.rings engine.new.events) (P.told platform.old)
         (P.told platform.new) }
     ensures corb { engine.new.corb ≡ engine.old.corb }
     ensures rirb { engine.new.rirb ≡ engine.old.rirb }

@@ -46,7 +46,7 @@ pub fn settle<P: Platform>(platform: &mut P, engine: &mut Engine, kept: u32) -> 
         result) (P.told platform.old) (P.told platform.new) }
     ensures corb { engine.new.corb ≡ engine.old.corb }
     ensures rirb { engine.new.rirb ≡ engine.old.rirb }
-    ensures events { engine.new.events.items ≡ engine.old.events.items }
+    ensures events { engine.new.events ≡ engine.old.events }
     ensures fixed { P.fixed platform.new ≡ P.fixed platform.old }
     ensures accesses { P.spare_accesses platform.old ≤ P.spare_accesses platform.new + SETTLE_ACCESSES }
     ensures bytes { P.spare_bytes platform.new ≡ P.spare_bytes platform.old }
@@ -64,7 +64,7 @@ fn start_if<P: Platform>(platform: &mut P, engine: &mut Engine, settled: bool) -
         result) (P.told platform.old) (P.told platform.new) }
     ensures corb { engine.new.corb ≡ engine.old.corb }
     ensures rirb { engine.new.rirb ≡ engine.old.rirb }
-    ensures events { engine.new.events.items ≡ engine.old.events.items }
+    ensures events { engine.new.events ≡ engine.old.events }
     ensures fixed { P.fixed platform.new ≡ P.fixed platform.old }
     ensures accesses { P.spare_accesses platform.old ≤ P.spare_accesses platform.new + START_ACCESSES }
     ensures bytes { P.spare_bytes platform.new ≡ P.spare_bytes platform.old }

@@ -21,3 +21,8 @@ pub use Rattle.driver_rules.proofs.Going.{rules_turn}
 pub use Rattle.driver_rules.proofs.Going.{rules_open, rules_row, rules_close}
 -- between two stretches the device may make steps
 pub use Rattle.driver_rules.proofs.Going.{rest_steps}
+-- whether the command that they ask was answered: where a stretch begins and ends, over plain accesses, over a poll, over
+-- a submission, and over steps
+pub use Rattle.driver_rules.proofs.Noting.{begins_noted, ends_noted, plain_noted, polls_noted, submits_noted, steps_noted}
+-- a tally that they take up as progress does is the trail's: where they begin, from then on, and at the end
+pub use Rattle.driver_rules.proofs.Tallies.{tally_begins, tally_goes_on, tally_at_end}

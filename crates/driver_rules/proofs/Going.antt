@@ -9,10 +9,10 @@ use Rattle.hda_world.specs.Tellings.{Telling, world_of, Went, Accessed, MakesBy,
 use Rattle.command_engine.specs.declared.ring_places.RingPlaces.{RingPlaces}
 use Rattle.driver_progress.specs.Phases.{is_ready}
 use Rattle.driver_progress.specs.Tasks.{Task, DriverLine}
-use Rattle.driver_progress.specs.Seen.{values_of}
 use Rattle.driver_progress.specs.Unread.{IsAccess, AreAccesses}
 use Rattle.driver_progress.specs.Requests.{requests_of}
 use Rattle.driver_progress.specs.Progress.{Trail, trail_of}
+use Rattle.driver_rules.specs.Findings.{findings_of}
 use Rattle.driver_rules.specs.Rules.{Rules}
 use Rattle.driver_rules.specs.Onward.{Onward, is_turn, begun_if, later_begun, later_ended, onward_noted, FitsBy, onward_of, IsAtOnwardRest, IsOnwardOpen, IsRuleStretch}
 use Rattle.driver_rules.proofs.Onwards.{trail_is, onward_went, conforms_onward_went, steps_leave_onward, steps_conform_onward, onward_access, conforms_onward_access, access_fits_onward}
@@ -20,7 +20,7 @@ use Rattle.driver_rules.proofs.Onwards.{trail_is, onward_went, conforms_onward_w
 module _ {S : Type 0} (rules : Rules S) where
   -- ---- a stretch begins
 
-  turned : (trail : Trail) (later : Option S) → later ≡ None → is_turn trail ≡ true → later_begun rules trail later ≡ Some (rules.begin trail.state.rings)
+  pub turned : (trail : Trail) (later : Option S) → later ≡ None → is_turn trail ≡ true → later_begun rules trail later ≡ Some (rules.begin trail.state.rings)
   turned trail None none turns = ap (λ (turns : Bool). begun_if rules turns trail) turns
   turned trail (Some later) none turns = cc
 
@@ -106,33 +106,33 @@ module _ {S : Type 0} (rules : Rules S) where
 
   -- ---- it ends
 
-  ended_later : (trail : Trail) (later : Option S) (state : S) (turn : Option DriverLine) (made : List Event) → later ≡ Some state → trail.turn ≡ turn → trail.made ≡ made
-      → later_ended rules trail.turn trail.made later ≡ Some (rules.next state turn (values_of made))
-  ended_later trail later state turn made is turn_is made_is =
-      ap (λ (later : Option S). later_ended rules trail.turn trail.made later) is
-      ∙ ap (λ (turn : Option DriverLine). Some (rules.next state turn (values_of trail.made))) turn_is
-      ∙ ap (λ (made : List Event). Some (rules.next state turn (values_of made))) made_is
+  ended_later : (trail : Trail) (later : Option S) (state : S) (turn : Option DriverLine) (made : List Event) (answered : Bool) → later ≡ Some state → trail.turn ≡ turn → trail.made ≡ made
+      → later_ended rules trail.turn trail.made answered later ≡ Some (rules.next state turn (findings_of made answered))
+  ended_later trail later state turn made answered is turn_is made_is =
+      ap (λ (later : Option S). later_ended rules trail.turn trail.made answered later) is
+      ∙ ap (λ (turn : Option DriverLine). Some (rules.next state turn (findings_of trail.made answered))) turn_is
+      ∙ ap (λ (made : List Event). Some (rules.next state turn (findings_of made answered))) made_is
 
-  fits_by : (task : Task) (trail : Trail) (later : Option S) (state : S) (turn : Option DriverLine) (made : List Event) → later ≡ Some state → trail.turn ≡ turn → trail.made ≡ made
-      → requests_of made ≡ rules.expected state turn (values_of made) → FitsBy rules task trail later
-  fits_by task trail later state turn made is turn_is made_is fits =
-      subst (FitsBy rules task trail) (sym is)
+  fits_by : (task : Task) (trail : Trail) (later : Option S) (state : S) (turn : Option DriverLine) (made : List Event) (answered : Bool) → later ≡ Some state → trail.turn ≡ turn → trail.made ≡ made
+      → requests_of made ≡ rules.expected state turn (findings_of made answered) → FitsBy rules task trail answered later
+  fits_by task trail later state turn made answered is turn_is made_is fits =
+      subst (FitsBy rules task trail answered) (sym is)
       (ap requests_of made_is ∙ fits
-      ∙ ap (λ (turn : Option DriverLine). rules.expected state turn (values_of made)) (sym turn_is)
-      ∙ ap (λ (made : List Event). rules.expected state trail.turn (values_of made)) (sym made_is))
+      ∙ ap (λ (turn : Option DriverLine). rules.expected state turn (findings_of made answered)) (sym turn_is)
+      ∙ ap (λ (made : List Event). rules.expected state trail.turn (findings_of made answered)) (sym made_is))
 
   pub rules_close : (task : Task) (lines left : List DriverLine) (turn : Option DriverLine) (later later' : S) (made : List Event) (old new : Telling) → Accessed old new End
-      → IsRuleStretch rules later turn made later' → IsOnwardOpen rules task lines left turn (Some later) made old
+      → IsRuleStretch rules later turn made (onward_of rules task lines old).answered later' → IsOnwardOpen rules task lines left turn (Some later) made old
       → IsAtOnwardRest rules task lines left (Some later') new
   rules_close task lines left turn later later' made old new accessed stretch opened =
       let onward = onward_of rules task lines old in
       let is = onward_access rules task lines End old new accessed in record {
         conforms = conforms_onward_access rules task lines End old new accessed
-            (fits_by task onward.trail onward.later later turn made opened.later_is opened.turn_is opened.made_is stretch.fits) opened.conforms;
+            (fits_by task onward.trail onward.later later turn made onward.answered opened.later_is opened.turn_is opened.made_is stretch.fits) opened.conforms;
         within = ap (λ (onward : Onward S). onward.trail.within) is;
         left_is = ap (λ (onward : Onward S). onward.trail.left) is ∙ opened.left_is;
         later_is = ap (λ (onward : Onward S). onward.later) is
-            ∙ ended_later onward.trail onward.later later turn made opened.later_is opened.turn_is opened.made_is
+            ∙ ended_later onward.trail onward.later later turn made onward.answered opened.later_is opened.turn_is opened.made_is
             ∙ ap (λ (state : S). Some state) (sym stretch.leads);
       }
 

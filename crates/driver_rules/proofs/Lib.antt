@@ -1,4 +1,6 @@
 mod Onwards
 mod Waiting
 mod Going
+mod Noting
+mod Tallies
 pub mod Callers

@@ -8,8 +8,8 @@ use Rattle.hda_world.specs.Worlds.{World}
 use Rattle.hda_world.specs.Events.{Event, Stepped, Begin, End, Read, Write, DmaRead, DmaWrite, happens}
 use Rattle.hda_world.specs.Tellings.{Telling, world_of, Went}
 use Rattle.driver_progress.specs.Tasks.{Task, DriverLine}
-use Rattle.driver_progress.specs.Seen.{values_of}
 use Rattle.driver_progress.specs.Progress.{Trail, trail_of, trail_opened, Fits, FitsAt, Conforms, IsProgress}
+use Rattle.driver_rules.specs.Findings.{findings_of}
 use Rattle.driver_rules.specs.Rules.{Rules}
 use Rattle.driver_rules.specs.Onward.{Onward, onward_opened, is_turn, begun_if, later_begun, later_ended, onward_noted, onward_after, FitsBy, FitsOnwardAt, ConformsOnward, onward_of, later_of, later_last, IsOnward, IsAtOnwardRest, IsNoBegin}
 use Rattle.driver_rules.proofs.Onwards.{trail_noted, trail_is, onward_went, steps_leave_onward}
@@ -25,14 +25,14 @@ module _ {S : Type 0} (rules : Rules S) where
   begun_on trail None keeps = cc
   begun_on trail (Some later) keeps = (later, refl)
 
-  ended_on : (trail : Trail) (later : Option S) → Keeps later → Keeps (later_ended rules trail.turn trail.made later)
-  ended_on trail None keeps = cc
-  ended_on trail (Some later) keeps = (rules.next later trail.turn (values_of trail.made), refl)
+  ended_on : (trail : Trail) (answered : Bool) (later : Option S) → Keeps later → Keeps (later_ended rules trail.turn trail.made answered later)
+  ended_on trail answered None keeps = cc
+  ended_on trail answered (Some later) keeps = (rules.next later trail.turn (findings_of trail.made answered), refl)
 
   noted_on : (task : Task) (onward : Onward S) (world : World) (event : Event) → Keeps onward.later → Keeps (onward_noted rules task onward world event).later
   noted_on task onward world (Stepped step) keeps = keeps
   noted_on task onward world Begin keeps = begun_on onward.trail onward.later keeps
-  noted_on task onward world End keeps = ended_on onward.trail onward.later keeps
+  noted_on task onward world End keeps = ended_on onward.trail onward.answered onward.later keeps
   noted_on task onward world (Read at width value) keeps = keeps
   noted_on task onward world (Write at width value) keeps = keeps
   noted_on task onward world (DmaRead at bytes) keeps = keeps
@@ -59,7 +59,7 @@ module _ {S : Type 0} (rules : Rules S) where
   waits_fit : (task : Task) (onward : Onward S) (event : Event) → onward.later ≡ None → FitsAt task onward.trail event → FitsOnwardAt rules task onward event
   waits_fit task onward (Stepped step) none fits = tt
   waits_fit task onward Begin none fits = tt
-  waits_fit task onward End none fits = subst (FitsBy rules task onward.trail) (sym none) fits
+  waits_fit task onward End none fits = subst (FitsBy rules task onward.trail onward.answered) (sym none) fits
   waits_fit task onward (Read at width value) none fits = tt
   waits_fit task onward (Write at width value) none fits = tt
   waits_fit task onward (DmaRead at bytes) none fits = tt
@@ -76,14 +76,14 @@ module _ {S : Type 0} (rules : Rules S) where
 
   -- ---- what keeps them waiting: steps, and a stretch that is no line's in `Ready`
 
-  ended_waits : (trail : Trail) (later : Option S) → later ≡ None → later_ended rules trail.turn trail.made later ≡ None
-  ended_waits trail None none = refl
-  ended_waits trail (Some later) none = cc
+  ended_waits : (trail : Trail) (answered : Bool) (later : Option S) → later ≡ None → later_ended rules trail.turn trail.made answered later ≡ None
+  ended_waits trail answered None none = refl
+  ended_waits trail answered (Some later) none = cc
 
   noted_waits : (task : Task) (onward : Onward S) (world : World) (event : Event) → IsNoBegin event → onward.later ≡ None → (onward_noted rules task onward world event).later ≡ None
   noted_waits task onward world (Stepped step) plain none = none
   noted_waits task onward world Begin plain none = absurd plain
-  noted_waits task onward world End plain none = ended_waits onward.trail onward.later none
+  noted_waits task onward world End plain none = ended_waits onward.trail onward.answered onward.later none
   noted_waits task onward world (Read at width value) plain none = none
   noted_waits task onward world (Write at width value) plain none = none
   noted_waits task onward world (DmaRead at bytes) plain none = none
@@ -127,8 +127,8 @@ module _ {S : Type 0} (rules : Rules S) where
   last_waits : (onward : Onward S) → onward.later ≡ None → later_last rules onward ≡ None
   last_waits onward none = by onward.trail.within
     where
-      by : (within : Bool) → (if within then later_ended rules onward.trail.turn onward.trail.made onward.later else onward.later) ≡ None
-      by true = ended_waits onward.trail onward.later none
+      by : (within : Bool) → (if within then later_ended rules onward.trail.turn onward.trail.made onward.answered onward.later else onward.later) ≡ None
+      by true = ended_waits onward.trail onward.answered onward.later none
       by false = none
 
   pub progress_waits : (task : Task) (lines : List DriverLine) (telling : Telling) → IsProgress task lines telling → (onward_of rules task lines telling).later ≡ None
@@ -137,7 +137,7 @@ module _ {S : Type 0} (rules : Rules S) where
       let onward = onward_of rules task lines telling in (
         record {
           conforms = waits_conforms task telling.journal telling.start (onward_opened lines) progress.conforms none;
-          last = λ within. subst (FitsBy rules task onward.trail) (sym none)
+          last = λ within. subst (FitsBy rules task onward.trail onward.answered) (sym none)
               (subst (Fits task) (sym (trail_is rules task lines telling)) (progress.last (ap (λ (trail : Trail). trail.within) (sym (trail_is rules task lines telling)) ∙ within)));
         },
         last_waits onward none,
@@ -149,5 +149,5 @@ module _ {S : Type 0} (rules : Rules S) where
   rest_onward task lines left later telling rest =
       let onward = onward_of rules task lines telling in (
         record { conforms = rest.conforms; last = λ within. absurd (false≢true (sym rest.within ∙ within)) },
-        ap (λ (within : Bool). if within then later_ended rules onward.trail.turn onward.trail.made onward.later else onward.later) rest.within ∙ rest.later_is,
+        ap (λ (within : Bool). if within then later_ended rules onward.trail.turn onward.trail.made onward.answered onward.later else onward.later) rest.within ∙ rest.later_is,
       )

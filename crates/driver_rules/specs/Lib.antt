@@ -1,2 +1,4 @@
+pub mod Findings
 pub mod Rules
 pub mod Onward
+pub mod Notes

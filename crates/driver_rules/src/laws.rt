@@ -53,7 +53,7 @@ pub fn stretches_go_by_rules<S>()
         → IsOnwardOpen rules task lines left turn (Some later) (before ++ made) new }
     ensures closes { (rules : Rules S) (task : Task) (lines left : List DriverLine) (turn : Option DriverLine)
         (later later' : S) (made : List Event) (old new : Telling) → Accessed old new End
-        → IsRuleStretch rules later turn made later'
+        → IsRuleStretch rules later turn made (onward_of rules task lines old).answered later'
         → IsOnwardOpen rules task lines left turn (Some later) made old
         → IsAtOnwardRest rules task lines left (Some later') new }
     ensures steps { (rules : Rules S) (task : Task) (lines left : List DriverLine) (later : Option S)

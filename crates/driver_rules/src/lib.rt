@@ -3,5 +3,7 @@
 #![tactic(auto)]
 
 mod laws;
+mod note_laws;
 
 pub use laws::{rules_wait_for_the_set_up, stretches_go_by_rules};
+pub use note_laws::{answers_are_noted, tallies_agree};

@@ -1,5 +1,5 @@
 -- A stretch of a driver that records: it begins, its call makes what the rules expect, and it ends.
-use Rattle.std.proofs.Common.{◌≡◌, ◌≤◌, ℕ, true, false, List, [], ◌∷◌, map, length, Option, Some, sym, ap, subst, ◌∙◌}
+use Rattle.std.proofs.Common.{◌≡◌, ◌≤◌, ℕ, Bool, true, false, List, [], ◌∷◌, map, length, Option, Some, sym, ap, subst, ◌∙◌}
 use Rattle.std.specs.Prelude.{drop, slice_get}
 use Rattle.verb_codes.specs.declared.verbs.Command.{Command}
 use Rattle.codec_graph.specs.declared.raw.RawCodec.{RawCodec}
@@ -17,7 +17,7 @@ use Rattle.driver_progress.specs.Seen.{values_of}
 use Rattle.driver_progress.specs.Tasks.{Task, DriverLine, walks_over}
 use Rattle.driver_progress.specs.Progress.{Trail, trail_of}
 use Rattle.driver_progress.specs.Unread.{AreAccesses}
-use Rattle.driver_rules.specs.Onward.{IsAtOnwardRest, IsOnwardOpen, IsRuleStretch}
+use Rattle.driver_rules.specs.Onward.{onward_of, IsAtOnwardRest, IsOnwardOpen, IsRuleStretch}
 use Rattle.driver_rules.proofs.Callers.{trail_is, rules_open, rules_row, rules_close, rest_steps}
 use Rattle.laws_bring_up.proofs.Callers.{AreCalm}
 use Rattle.recording_driver.specs.RecordRules.{RecordState, record_rules}
@@ -124,8 +124,8 @@ module _ (means : Means) (verbs : RawCodec → List Command) (graphs : List RawC
   -- ---- it makes its accesses, and ends
 
   -- the accesses that the rules expect submit no command
-  pub stretch_calm : (total : ℕ) (state state' : RecordState) (turn : Option DriverLine) (made : List Event) → IsRuleStretch (record_rules task total) state turn made state' → AreCalm (requests_of made)
-  stretch_calm total state state' turn made stretch = subst AreCalm (sym stretch.fits) (expected_calm task total state (values_of made) turn)
+  pub stretch_calm : (total : ℕ) (state state' : RecordState) (turn : Option DriverLine) (made : List Event) (answered : Bool) → IsRuleStretch (record_rules task total) state turn made answered state' → AreCalm (requests_of made)
+  stretch_calm total state state' turn made answered stretch = subst AreCalm (sym stretch.fits) (expected_calm task total state (values_of made) turn)
 
   pub record StretchEnds (left : List DriverLine) (old new : RecordingState) (telling : Telling) : Type 0 where
     pub rest : IsAtOnwardRest (record_rules task new.recorder.total) task lines left (Some (record_state new)) telling
@@ -135,24 +135,25 @@ module _ (means : Means) (verbs : RawCodec → List Command) (graphs : List RawC
     pub recorded : RecordsAll new telling
 
   pub stretch_ends : (left : List DriverLine) (turn : Option DriverLine) (old new : RecordingState) (events : List Event) (begun made after : Telling) → Makes events begun made → AreAccesses events
-      → IsRuleStretch (record_rules task old.recorder.total) (record_state old) turn events (record_state new) → KeepsRecording old new → Accessed made after End → IsOpened left turn old begun → StretchEnds left old new after
+      → ((answered : Bool) → IsRuleStretch (record_rules task old.recorder.total) (record_state old) turn events answered (record_state new)) → KeepsRecording old new → Accessed made after End → IsOpened left turn old begun → StretchEnds left old new after
   stretch_ends left turn old new events begun made after makes are stretch keeps ends opened =
       let total = old.recorder.total in
       let row = rules_row (record_rules task total) task lines left turn (record_state old) [] events begun made makes are opened.opened in
-      let rest = rules_close (record_rules task total) task lines left turn (record_state old) (record_state new) events made after ends stretch row in
-      let calm = stretch_calm total (record_state old) (record_state new) turn events stretch in record {
+      let answered = (onward_of (record_rules task total) task lines made).answered in
+      let rest = rules_close (record_rules task total) task lines left turn (record_state old) (record_state new) events made after ends (stretch answered) row in
+      let calm = stretch_calm total (record_state old) (record_state new) turn events answered (stretch answered) in record {
         rest = subst (λ (total : ℕ). IsAtOnwardRest (record_rules task total) task lines left (Some (record_state new)) after) (sym keeps.total) rest;
         beside = subst (λ (sent : ℕ). IsBesideRules task lines sent after) (sym keeps.sent)
             (end_beside task lines old.sent made after laws.silent ends (row_beside task lines old.sent events begun made makes are opened.beside));
         stays = end_good means graphs task lines made after ends (row_good means graphs task lines events begun made makes.by calm opened.stays);
         of = of_kept old new keeps opened.of;
-        recorded = stretch_runs task old new turn events begun made after makes are ends stretch keeps opened.of.task_is.geometry opened.runs;
+        recorded = stretch_runs task old new turn events answered begun made after makes are ends (stretch answered) keeps opened.of.task_is.geometry opened.runs;
       }
 
   pub record_call : (left : List DriverLine) (line : DriverLine) (old new : RecordingState) (begun made after : Telling) → IsRecorder old.recorder → Records line.irq old new (Some begun) (Some made) → Accessed made after End
       → HasNotWrapped (world_of made) → IsOpened left (Some line) old begun → On left new after
   record_call left line old new begun made after recorder call ends small opened =
-      let ended = stretch_ends left (Some line) old new call.made begun made after call.by.is call.are (call.is task line.budget opened.of.task_is) call.keeps ends opened in
+      let ended = stretch_ends left (Some line) old new call.made begun made after call.by.is call.are (λ answered. call.is task line.budget answered opened.of.task_is) call.keeps ends opened in
       goes_on left new after ended.rest ended.beside ended.stays ended.of
       (mark_takes laws.came laws.recorder laws.taken graphs new.engine new.recorder End made after (tt {0}) ends takes) ended.recorded
     where

@@ -43,7 +43,7 @@ module _ (means : Means) (verbs : RawCodec → List Command) (graphs : List RawC
   opened = record_opens means verbs graphs task nid laws lines [] old before begun begins on
 
   stretch : StretchEnds means verbs graphs task nid laws lines [] old ended after
-  stretch = stretch_ends means verbs graphs task nid laws lines [] None old ended call.made begun made after call.by.is call.are (call.is task opened.of.task_is) call.keeps ends opened
+  stretch = stretch_ends means verbs graphs task nid laws lines [] None old ended call.made begun made after call.by.is call.are (λ answered. call.is task answered opened.of.task_is) call.keeps ends opened
 
   -- WALCLK has not wrapped where the last run ended
   ran_small : (stops : StopsRecord old ended call.made begun made) → HasNotWrapped (world_of stops.ran)

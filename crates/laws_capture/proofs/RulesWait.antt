@@ -39,9 +39,9 @@ module _ {S : Type 0} (rules : Rules S) (task : Task) (lines : List DriverLine) 
   begun_waits trail None none turns = ap (λ (turns : Bool). begun_if rules turns trail) turns
   begun_waits trail (Some later) none turns = cc
 
-  ended_waits : (trail : Trail) (later : Option S) → later ≡ None → later_ended rules trail.turn trail.made later ≡ None
-  ended_waits trail None none = refl
-  ended_waits trail (Some later) none = cc
+  ended_waits : (trail : Trail) (answered : Bool) (later : Option S) → later ≡ None → later_ended rules trail.turn trail.made answered later ≡ None
+  ended_waits trail answered None none = refl
+  ended_waits trail answered (Some later) none = cc
 
   access_waits : (onward : Onward S) (world : World) (event : Event) → IsAccess event → (onward_noted rules task onward world event).later ≡ onward.later
   access_waits onward world (Stepped step) is = absurd is
@@ -68,4 +68,4 @@ module _ {S : Type 0} (rules : Rules S) (task : Task) (lines : List DriverLine) 
       ∙ begun_waits was.trail was.later waits (ap is_turn (trail_is rules task lines before) ∙ turns) in
       let last = row_waits events begun made makes.by are first in
       let is = onward_of rules task lines made in
-      ap (λ (onward : Onward S). onward.later) (onward_access rules task lines End made after ends) ∙ ended_waits is.trail is.later last
+      ap (λ (onward : Onward S). onward.later) (onward_access rules task lines End made after ends) ∙ ended_waits is.trail is.answered is.later last

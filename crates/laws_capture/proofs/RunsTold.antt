@@ -65,10 +65,10 @@ kept_measures old new keeps =
     ap (λ (geometry : Geometry). record_measures geometry old.recorder.total) (sym keeps.geometry)
     ∙ ap (λ (total : ℕ). record_measures new.recorder.geometry total) (sym keeps.total)
 
-pub stretch_runs : (task : Task) (old new : RecordingState) (turn : Option DriverLine) (events : List Event) (begun made after : Telling) → Makes events begun made → AreAccesses events → Accessed made after End
-    → IsRuleStretch (record_rules task old.recorder.total) (record_state old) turn events (record_state new) → KeepsRecording old new → task.geometry ≡ old.recorder.geometry → AreRuns old true [] begun
+pub stretch_runs : (task : Task) (old new : RecordingState) (turn : Option DriverLine) (events : List Event) (answered : Bool) (begun made after : Telling) → Makes events begun made → AreAccesses events → Accessed made after End
+    → IsRuleStretch (record_rules task old.recorder.total) (record_state old) turn events answered (record_state new) → KeepsRecording old new → task.geometry ≡ old.recorder.geometry → AreRuns old true [] begun
     → RecordsAll new after
-stretch_runs task old new turn events begun made after makes are ends stretch keeps geometry runs =
+stretch_runs task old new turn events answered begun made after makes are ends stretch keeps geometry runs =
     let stretches = runs.stretches in
     let one = record_stretch_of events in
     let has = end_has stretches true events made after ends (row_have stretches true [] events begun made makes.by are runs.has) in

@@ -9,7 +9,7 @@ use Rattle.route_setup.specs.Means.{Means}
 use Rattle.hda_world.specs.Worlds.{World}
 use Rattle.hda_world.specs.Events.{Event}
 use Rattle.hda_world.specs.Tellings.{Telling, world_of, Makes}
-use Rattle.command_engine.specs.declared.engine.Engine.{Engine}
+use Rattle.command_engine.specs.Engines.{EngineState}
 use Rattle.command_engine.specs.Polling.{PollReads, poll_accesses}
 use Rattle.period_writer.specs.declared.geometry.Geometry.{Geometry}
 use Rattle.period_writer.specs.Outcomes.{HasNotWrapped}
@@ -121,14 +121,14 @@ module _ (recorder_laws : RecorderLaws) (taken_laws : TakenLaws) where
 -- what its stream takes is that of both sides of it
 takes_by : (graphs : List RawCodec) (old new : RecordingState) (world : World) → new.engine ≡ old.engine → new.recorder ≡ old.recorder → StreamTakes graphs old.engine old.recorder world → StreamTakes graphs new.engine new.recorder world
 takes_by graphs old new world engine recorder takes =
-    subst (λ (engine : Engine). StreamTakes graphs engine new.recorder world) (sym engine) (subst (λ (recorder : RecorderState). StreamTakes graphs old.engine recorder world) (sym recorder) takes)
+    subst (λ (engine : EngineState). StreamTakes graphs engine new.recorder world) (sym engine) (subst (λ (recorder : RecorderState). StreamTakes graphs old.engine recorder world) (sym recorder) takes)
 
 -- a recorder that records is one that runs come to
 pub taking_on : (recorder : RecorderState) (world : World) → IsTaking recorder world → records_on recorder.course.recorded ≡ true
 taking_on recorder world is = ap records_on is.recording.records
 
 -- and one of which nothing is recorded was not started
-pub unstarted_fresh : (graphs : List RawCodec) (engine : Engine) (recorder : RecorderState) (world : World) → HasNotStarted graphs engine recorder world → recorder.course.started ≡ false
+pub unstarted_fresh : (graphs : List RawCodec) (engine : EngineState) (recorder : RecorderState) (world : World) → HasNotStarted graphs engine recorder world → recorder.course.started ≡ false
 unstarted_fresh graphs engine recorder world has = ap (λ (tally : RecordTally). tally.course.started) has.fresh
 
 module _ (came : CameLaws) (recorder_laws : RecorderLaws) (taken_laws : TakenLaws) (means : Means) (graphs : List RawCodec) (format : Format) (nid : ℕ)

@@ -10,7 +10,7 @@ use Rattle.hda_world.specs.Worlds.{World}
 use Rattle.hda_world.specs.Events.{Event, Stepped, Begin, End, Read, Write, DmaRead, DmaWrite, after_write, happens, after}
 use Rattle.hda_world.specs.Tellings.{Telling, world_of, Went, Accessed, Makes}
 use Rattle.hda_world.proofs.Callers.{world_of-went, woven, steps_leave, write_memory}
-use Rattle.command_engine.specs.declared.engine.Engine.{Engine}
+use Rattle.command_engine.specs.Engines.{EngineState}
 use Rattle.command_engine.specs.declared.ring_places.RingPlaces.{RingPlaces}
 use Rattle.command_engine.specs.Fetchings.{Stands}
 use Rattle.command_engine.proofs.Callers.{responses_apart, event_keeps, status_apart}
@@ -65,7 +65,7 @@ events_region (event ∷ events) world all =
 
 -- ---- the whole of it
 
-module _ (came : CameLaws) (recorder_laws : RecorderLaws) (taken_laws : TakenLaws) (graphs : List RawCodec) (engine : Engine) (recorder : RecorderState) where
+module _ (came : CameLaws) (recorder_laws : RecorderLaws) (taken_laws : TakenLaws) (graphs : List RawCodec) (engine : EngineState) (recorder : RecorderState) where
   pub unstarted_events : (events : List Event) (world : World) → All IsLook events → HasNotStarted graphs engine recorder world → HasNotStarted graphs engine recorder (after events world)
   unstarted_events events world all has =
       let quiet = events_quiet came recorder.geometry.fifo events world (all_rest events all) (record { rests = has.rests; none_came = has.none_came }) in record {

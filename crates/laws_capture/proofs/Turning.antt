@@ -11,7 +11,7 @@ use Rattle.hda_world.specs.Events.{Begin, End}
 use Rattle.hda_world.specs.Tellings.{Telling, world_of, Accessed}
 use Rattle.command_engine.specs.Blocks.{rirb_bytes}
 use Rattle.command_engine.specs.Fetchings.{Stands}
-use Rattle.command_engine.specs.declared.engine.Engine.{Engine}
+use Rattle.command_engine.specs.Engines.{EngineState}
 use Rattle.command_engine.specs.declared.ring_places.RingPlaces.{RingPlaces}
 use Rattle.period_writer.specs.declared.geometry.Geometry.{Geometry}
 use Rattle.period_writer.specs.Blocks.{are_apart, addresses_of}
@@ -63,7 +63,7 @@ ring_apart rirb recorder is beside = record {
 
 -- ---- the rules begin
 
-state_by : (engine : Engine) (recorder : RecorderState) (rings : RingPlaces) → engine.rings ≡ rings → tally_of recorder ≡ tally_opened → record_begun rings ≡ record { rings = engine.rings; tally = tally_of recorder }
+state_by : (engine : EngineState) (recorder : RecorderState) (rings : RingPlaces) → engine.rings ≡ rings → tally_of recorder ≡ tally_opened → record_begun rings ≡ record { rings = engine.rings; tally = tally_of recorder }
 state_by engine recorder rings same fresh =
     let state : RingPlaces → RecordTally → RecordState = λ rings tally. record { rings = rings; tally = tally } in
     ap (λ (rings : RingPlaces). state rings tally_opened) (sym same) ∙ ap (λ (tally : RecordTally). state engine.rings tally) (sym fresh)
@@ -86,7 +86,7 @@ module _ (means : Means) (verbs : RawCodec → List Command) (graphs : List RawC
 
   stands_so : Stands standing.from standing.read driver.engine.corb.address driver.engine.rirb.address driver.engine.rings (world_of telling)
   stands_so =
-      subst (λ (engine : Engine). Stands standing.from standing.read engine.corb.address engine.rirb.address engine.rings (world_of telling)) (sym of.engine) standing.stands
+      subst (λ (engine : EngineState). Stands standing.from standing.read engine.corb.address engine.rirb.address engine.rings (world_of telling)) (sym of.engine) standing.stands
 
   unstarted : HasNotStarted graphs driver.engine driver.recorder (world_of telling)
   unstarted = record {
@@ -125,7 +125,7 @@ module _ (means : Means) (verbs : RawCodec → List Command) (graphs : List RawC
       let opened = rules_turn (record_rules task total) task lines left line rings telling begun begins (ap is_ready progress.phase) progress.rings waits in record {
         opened = subst (λ (total : ℕ). IsOnwardOpen (record_rules task total) task lines left (Some line) (Some (record_state driver)) [] begun) (sym of.total_is)
             (subst (λ (state : RecordState). IsOnwardOpen (record_rules task total) task lines left (Some line) (Some state) [] begun)
-            (state_by driver.engine driver.recorder rings (ap (λ (engine : Engine). engine.rings) of.engine) of.fresh) opened);
+            (state_by driver.engine driver.recorder rings (ap (λ (engine : EngineState). engine.rings) of.engine) of.fresh) opened);
         beside = begin_beside task lines driver.sent telling begun begins beside;
         stays = begin_good means graphs task lines telling begun begins (record { set_up = silent.under_way.set_up; good = standing.good });
         of = record {

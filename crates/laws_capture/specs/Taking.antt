@@ -4,7 +4,7 @@ use Rattle.std.specs.Prelude.{◌≡◌, ◌⊎◌, ℕ, false, List, [], length
 use Rattle.codec_graph.specs.declared.raw.RawCodec.{RawCodec}
 use Rattle.hda_world.specs.declared.world.TheConstants.{REGION_BYTES}
 use Rattle.hda_world.specs.Worlds.{World}
-use Rattle.command_engine.specs.declared.engine.Engine.{Engine}
+use Rattle.command_engine.specs.Engines.{EngineState}
 use Rattle.command_engine.specs.Fetchings.{Stands, graphs_in}
 use Rattle.hda_capture.specs.Recordings.{tally_opened}
 use Rattle.hda_capture.specs.Recorders.{RecorderState, tally_of}
@@ -16,7 +16,7 @@ use Rattle.recording_driver.specs.RecordRules.{records_on}
 
 -- its stream was not set going: the engine of commands stands to the world, no stream runs, no block came, and RIRB
 -- lies outside the recorder's blocks
-pub record HasNotStarted (graphs : List RawCodec) (engine : Engine) (recorder : RecorderState) (world : World) : Type 0
+pub record HasNotStarted (graphs : List RawCodec) (engine : EngineState) (recorder : RecorderState) (world : World) : Type 0
   where
     pub fresh : tally_of recorder ≡ tally_opened
     pub none : recorder.bytes ≡ []
@@ -46,6 +46,6 @@ pub record IsOverWith (recorder : RecorderState) (world : World) : Type 0 where
   pub over : records_on recorder.course.recorded ≡ false
   pub has : HasTaken recorder world
 
-abbrev pub StreamTakes : (graphs : List RawCodec) → Engine → RecorderState → World → Type 0
+abbrev pub StreamTakes : (graphs : List RawCodec) → EngineState → RecorderState → World → Type 0
 StreamTakes graphs engine recorder world =
     HasNotStarted graphs engine recorder world ⊎ (IsTaking recorder world ⊎ IsOverWith recorder world)

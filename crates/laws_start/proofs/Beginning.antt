@@ -47,23 +47,14 @@ pub graphs_there : (files : List CodecFile) → graphs_in (codecs_in files) ≡ 
 graphs_there [] = refl
 graphs_there (file ∷ files) = ap (λ (graphs : List RawCodec). file.graph ∷ graphs) (graphs_there files)
 
--- the blocks of an engine lie in every region of this size
-blocks_inside : (bring_up : BringUp) (region : ℕ) → region ≡ REGION_BYTES → HasBlocks bring_up.engine.corb.address bring_up.engine.rirb.address region
-blocks_inside bring_up region whole =
-    let corb = bring_up.engine.corb.inside in
-    let rirb = bring_up.engine.rirb.inside in
-    let corb_size = bring_up.engine.corb_bytes in
-    let rirb_size = bring_up.engine.rirb_bytes in
-    record { corb_inside = omega (arith, corb, corb_size, whole); rirb_inside = omega (arith, rirb, rirb_size, whole); apart = bring_up.engine.apart }
-
 none_announced : (size : ℕ) (machine : Machine) → HasOnly (start_of size machine)
 none_announced size machine bit set = (let none = bit_at-zero bit in absurd (omega (arith, none, set)))
 
-can_begin : (bring_up : BringUp) (machine : Machine) (size : ℕ) → size ≡ REGION_BYTES → IsSound machine → IsWhole machine → bring_up.sent ≡ 0 → bring_up.agenda.graphs.items ≡ []
+can_begin : (bring_up : BringUp) (machine : Machine) (size : ℕ) → HasBlocks bring_up.engine.corb.address bring_up.engine.rirb.address REGION_BYTES → size ≡ REGION_BYTES → IsSound machine → IsWhole machine → bring_up.sent ≡ 0 → bring_up.agenda.graphs.items ≡ []
     → CanBegin bring_up (start_of size machine)
-can_begin bring_up machine size whole_region sound whole sent walked = record {
+can_begin bring_up machine size blocks whole_region sound whole sent walked = record {
   can = record {
-    blocks = blocks_inside bring_up (length (zeros size)) (zeros_length size ∙ whole_region);
+    blocks = subst (HasBlocks bring_up.engine.corb.address bring_up.engine.rirb.address) (sym (zeros_length size ∙ whole_region)) blocks;
     ascend = subst (λ (graphs : List RawCodec). AscendFrom 0 graphs) (sym (graphs_there machine.codecs)) (stand_by_address 0 machine.codecs sound.ascending sound.each (λ some. omega arith));
     only = none_announced size machine;
   };
@@ -94,7 +85,7 @@ begins means machine plans geometry plays pcm most bring_up writer sound whole o
         blocks = record { corb = refl; rirb = refl };
         graphs_are = graphs_there machine.codecs;
         stage = subst (λ (phase : Phase). StandsIn phase means (verbs_meant means machine.codecs plans) (graphs_of machine.codecs) task 0 bring_up (start_of REGION_BYTES machine)) (sym opened.phase)
-            (can_begin bring_up machine REGION_BYTES refl sound whole opened.sent opened.graphs);
+            (can_begin bring_up machine REGION_BYTES opened.blocks refl sound whole opened.sent opened.graphs);
       };
       state = opened_state bring_up geometry most writer opened;
     }
@@ -109,7 +100,7 @@ stands_before means verbs task geometry most bring_up writer world opened blocks
     graphs_are = refl;
     stage = subst (λ (phase : Phase). StandsIn phase means verbs (graphs_in world.codecs) task 0 bring_up world) (sym opened.phase)
         (record {
-          can = record { blocks = blocks_inside bring_up (length world.memory) whole; ascend = ascend; only = only };
+          can = record { blocks = subst (HasBlocks bring_up.engine.corb.address bring_up.engine.rirb.address) (sym whole) opened.blocks; ascend = ascend; only = only };
           stopped = stopped;
           defaults = defaults;
           none_sent = opened.sent;

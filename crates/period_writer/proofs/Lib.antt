@@ -44,6 +44,8 @@ pub mod RunClause
 pub mod RegistersBeside
 pub mod BetweenRuns
 pub mod StoppedStreams
+pub mod BareStops
+pub mod RingRows
 pub mod RingExtents
 pub mod Callers
 pub mod Shapes

@@ -2,7 +2,7 @@
 use Rattle.std.proofs.Common.{◌≡◌, ℕ, List, [], sym, ap, subst, ◌∙◌}
 use Rattle.dma_pool.specs.Pools.{PoolState}
 use Rattle.dma_pool.specs.declared.blocks.Lent.{Lent}
-use Rattle.command_engine.specs.declared.engine.Engine.{Engine}
+use Rattle.command_engine.specs.Engines.{EngineState}
 use Rattle.period_writer.specs.declared.geometry.Geometry.{Geometry}
 use Rattle.period_writer.specs.declared.course.Course.{Course}
 use Rattle.period_writer.specs.declared.course.Run.{Run}
@@ -53,7 +53,7 @@ module _ (ring : Geometry) (parts : Parts) (ring_is : parts.writer.geometry ≡ 
     free = fits.free;
     taken = driver.pool;
     all_free = fits.all_free;
-    opens = subst (λ (engine : Engine). OpensDriver ring fits.free engine.corb.address engine.rirb.address driver.recorder.list.address (recorders.periods_of driver.recorder) driver.pool) (sym opens.engine)
+    opens = subst (λ (engine : EngineState). OpensDriver ring fits.free engine.corb.address engine.rirb.address driver.recorder.list.address (recorders.periods_of driver.recorder) driver.pool) (sym opens.engine)
         (again ring fits.free parts.pool opens.middle driver.pool parts.engine.corb.address parts.engine.rirb.address parts.writer.list.address driver.recorder.list.address (periods_of parts.writer) (recorders.periods_of driver.recorder) fits.opens
         (subst (λ (g : Geometry). GivesBack g parts.pool parts.writer.list.address (periods_of parts.writer) opens.middle) ring_is opens.gives)
         (subst (λ (g : Geometry). OpensWriter g opens.middle driver.recorder.list.address (recorders.periods_of driver.recorder) driver.pool) ring_is opens.takes));

@@ -8,7 +8,7 @@ use Rattle.schedule_reader.specs.declared.schedule.Item.TheVariants.{Drive}
 use Rattle.schedule_reader.specs.declared.schedule.DriverLine as scheduled
 use Rattle.hda_world.specs.Events.{Event, Begin, End}
 use Rattle.hda_world.specs.Tellings.{Telling, Accessed, MakesBy}
-use Rattle.command_engine.specs.declared.engine.Engine.{Engine}
+use Rattle.command_engine.specs.Engines.{EngineState}
 use Rattle.period_writer.specs.declared.geometry.Geometry.{Geometry}
 use Rattle.period_writer.specs.declared.course.Ran.{Ran}
 use Rattle.period_writer.specs.Runs.{Tally}
@@ -180,7 +180,7 @@ fits_of terms driver parts coming are = record {
   all_free = coming.all_free;
   opens = subst (λ (pool : PoolState). OpensDriver terms.geometry coming.free parts.engine.corb.address parts.engine.rirb.address parts.writer.list.address (periods_of parts.writer) pool) (sym are.pool)
       (subst (λ (w : WriterState). OpensDriver terms.geometry coming.free parts.engine.corb.address parts.engine.rirb.address w.list.address (periods_of w) driver.pool) (sym are.writer)
-      (subst (λ (engine : Engine). OpensDriver terms.geometry coming.free engine.corb.address engine.rirb.address driver.writer.list.address (periods_of driver.writer) driver.pool) (sym are.engine) coming.takes));
+      (subst (λ (engine : EngineState). OpensDriver terms.geometry coming.free engine.corb.address engine.rirb.address driver.writer.list.address (periods_of driver.writer) driver.pool) (sym are.engine) coming.takes));
 }
 
 -- one that records was made of them
@@ -217,8 +217,8 @@ turned_ran terms keeps line driver parts opened new before after coming are open
           (not_wrapped ran.made (short_before ran.made (telling_of after) _ ran.ended.went short)) (told_whole before) on);
       keeps = λ task has. tt;
       stays = ran.stays;
-      corb = ap (λ (lent : Lent). lent.address) ran.kept.corb ∙ ap (λ (e : Engine). e.corb.address) engine;
-      rirb = ap (λ (lent : Lent). lent.address) ran.kept.rirb ∙ ap (λ (e : Engine). e.rirb.address) engine;
+      corb = ap (λ (lent : Lent). lent.address) ran.kept.corb ∙ ap (λ (e : EngineState). e.corb.address) engine;
+      rirb = ap (λ (lent : Lent). lent.address) ran.kept.rirb ∙ ap (λ (e : EngineState). e.rirb.address) engine;
       calls = omega (arith, none, more);
       between = ran.between;
       machine = ran.machine;

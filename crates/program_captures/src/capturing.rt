@@ -70,10 +70,10 @@ fn kept(
     })
 }
 
-/// Runs a driver over a machine by a schedule until all of a sound was recorded, a run was late, or the schedule ends:
-/// it resets the controller, walks over all codecs, sends the verbs that open the input of the codec at an address, and
-/// from the next line on records what the input stream takes through a ring of this geometry. The sound is given to
-/// every input pin. The machine has well-formed graphs, as each has that a codec file describes, and these plans of its
+/// Runs a driver over a machine by a whole schedule: it resets the controller, walks over all codecs, sends the verbs
+/// that open the input of the codec at an address, and from the next line on records what the input stream takes
+/// through a ring of this geometry, until all of a sound was recorded or a run was late. The sound is given to every
+/// input pin. The machine has well-formed graphs, as each has that a codec file describes, and these plans of its
 /// codecs for the input of that codec and the format of the sound.
 ///
 /// # Errors

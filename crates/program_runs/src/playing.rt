@@ -104,13 +104,13 @@ fn cut_line(alloc: Global, cut: Option<Cut>, name: &str) -> Result<Option<CutLin
     }
 }
 
-/// Runs a driver over a machine by a schedule until all sound was played, a run was late, or the schedule ends: it
-/// resets the controller, walks over all codecs, plans routes to their output pins of the kind, sends the verbs that
-/// open them, and plays the sound through a ring of this geometry. The sound is that of the WAV file `name`, of which
-/// `head` says what stands before it; it is read while it plays, before each call that may play as much as the ring
-/// takes. Where the shelf fails or the file gets shorter meanwhile, the run goes on over the sound that was read until
-/// then. The machine has well-formed graphs, as each has that a codec file describes, and these plans of its codecs for
-/// the kind of pins and the format of the sound, of which some has a route.
+/// Runs a driver over a machine by a whole schedule: it resets the controller, walks over all codecs, plans routes to
+/// their output pins of the kind, sends the verbs that open them, and plays the sound through a ring of this geometry,
+/// until all of it was played or a run was late. The sound is that of the WAV file `name`, of which `head` says what
+/// stands before it; it is read while it plays, before each call that may play as much as the ring takes. Where the
+/// shelf fails or the file gets shorter meanwhile, the run goes on over the sound that was read until then. The machine
+/// has well-formed graphs, as each has that a codec file describes, and these plans of its codecs for the kind of pins
+/// and the format of the sound, of which some has a route.
 ///
 /// # Errors
 /// Want of memory.

@@ -115,10 +115,10 @@ pub(crate) fn walk_fault(phase: Phase, sent: u32, of: u32) -> Option<PlayFault>
     }
 }
 
-/// Runs a driver over a machine by a schedule until its codecs are set up for the first stream, in the format of
-/// [`walk_format`], or the schedule ends: it resets the controller, walks over all codecs, plans their routes and sends
-/// the verbs that open them. Nothing is played. The machine has well-formed graphs, as each has that a codec file
-/// describes, and these plans of its codecs, of which some has a route.
+/// Runs a driver over a machine by a whole schedule: it resets the controller, walks over all codecs, plans their routes
+/// and sends the verbs that open them for the first stream, in the format of [`walk_format`]. Nothing is played. The
+/// machine has well-formed graphs, as each has that a codec file describes, and these plans of its codecs, of which
+/// some has a route.
 ///
 /// # Errors
 /// Want of memory.

@@ -7,7 +7,7 @@ use Rattle.hda_registers.specs.declared.places.TheConstants.{WALCLK}
 use Rattle.hda_world.specs.Events.{Event}
 use Rattle.hda_world.specs.Tellings.{Telling, Between, Makes}
 use Rattle.hda_world.proofs.Callers.{row_both, told_both, told_map}
-use Rattle.command_engine.specs.declared.engine.Engine.{Engine}
+use Rattle.command_engine.specs.Engines.{EngineState}
 use Rattle.command_engine.specs.declared.ring_places.RingPlaces.{RingPlaces}
 use Rattle.command_engine.specs.Polling.{PollReads, poll_accesses}
 use Rattle.command_engine.proofs.Callers.{made_none}
@@ -24,15 +24,14 @@ use Rattle.hda_capture.specs.Recorders.{RecorderState, tally_of, periods_of, mea
 use Rattle.driver_progress.specs.Tasks.{Task, DriverLine}
 use Rattle.driver_progress.specs.Seen.{values_of}
 use Rattle.driver_progress.proofs.Callers.{accesses_both}
-use Rattle.driver_rules.specs.Onward.{IsRuleStretch}
 use Rattle.recording_driver.specs.InputInterrupts.{input_interrupt_accesses}
-use Rattle.recording_driver.specs.RecordRules.{RecordState, records_on, record_rules}
+use Rattle.recording_driver.specs.RecordRules.{RecordState, records_on}
 use Rattle.recording_driver.specs.RecordingDrivers.{RecordingState, record_state, KeepsRecording, IsTaskOfRecording}
 use Rattle.recording_driver.specs.RecordingCalls.{IsBeforeRun, Records}
 use Rattle.recording_driver.specs.RecordingSteps.{BeginsNow, GoesOnNow, RecordsNow}
 use Rattle.recording_driver.proofs.Kept.{on_records}
 use Rattle.recording_driver.proofs.Accesses.{look_are, before_are, poll_are, start_are, run_are}
-use Rattle.recording_driver.proofs.Stretches.{run_made, made_for, start_made, line_of, AreSized, IsCalled, goes_called, begins_called, start_clocks, start_position, run_seen, looked_seen, no_stop, look_unread, called_stretch, found_stretch, none_stretch, over_stretch}
+use Rattle.recording_driver.proofs.Stretches.{run_made, made_for, start_made, line_of, IsRecordStretch, AreSized, IsCalled, goes_called, begins_called, start_clocks, start_position, run_seen, looked_seen, no_stop, look_unread, called_stretch, found_stretch, none_stretch, over_stretch}
 
 -- ---- no run comes
 
@@ -41,12 +40,12 @@ state_by rings tally = record { rings = rings; tally = tally }
 
 pub same_state : (old new : RecordingState) → new.engine ≡ old.engine → new.recorder ≡ old.recorder → record_state new ≡ record_state old
 same_state old new engine recorder =
-    ap (λ (engine : Engine). state_by engine.rings (tally_of new.recorder)) engine
+    ap (λ (engine : EngineState). state_by engine.rings (tally_of new.recorder)) engine
     ∙ ap (λ (recorder : RecorderState). state_by old.engine.rings (tally_of recorder)) recorder
 
-pub leads_as : (task : Task) (total : ℕ) (state : RecordState) (turn : Option DriverLine) (made : List Event) (state' state'' : RecordState) → state'' ≡ state' → IsRuleStretch (record_rules task total) state turn made state'
-    → IsRuleStretch (record_rules task total) state turn made state''
-leads_as task total state turn made state' state'' same stretch = record { fits = stretch.fits; leads = same ∙ stretch.leads }
+pub leads_as : (task : Task) (total : ℕ) (state : RecordState) (turn : Option DriverLine) (made : List Event) (state' state'' : RecordState) → state'' ≡ state' → IsRecordStretch task total state turn made state'
+    → IsRecordStretch task total state turn made state''
+leads_as task total state turn made state' state'' same stretch = λ answered. record { fits = (stretch answered).fits; leads = same ∙ (stretch answered).leads }
 
 never : true ≡ false → ⊥
 never is = cc
@@ -57,9 +56,9 @@ over_records irq old new told over engine recorder keeps = record {
   made = [];
   are = tt {0};
   by = made_none told;
-  is = λ task budget of.
+  is = λ task budget answered of.
       leads_as task old.recorder.total (record_state old) (Some (line_of irq budget)) [] (record_state old) (record_state new) (same_state old new engine recorder)
-      (over_stretch task old.recorder.total (record_state old) irq budget over);
+      (over_stretch task old.recorder.total (record_state old) irq budget over) answered;
   keeps = keeps;
   tells = told_map (λ before after makes. inl (record { cause = inr over; looks = inl refl; over = λ closed. refl; engine = engine; recorder = recorder })) (made_none told);
 }
@@ -72,9 +71,9 @@ none_records old new interrupts status before after more off looked engine recor
       made = made;
       are = look_are interrupts status;
       by = looked;
-      is = λ task budget of.
+      is = λ task budget answered of.
           leads_as task old.recorder.total (record_state old) (Some (line_of true budget)) made (record_state old) (record_state new) (same_state old new engine recorder)
-          (none_stretch task old.recorder.total (record_state old) budget interrupts status more off);
+          (none_stretch task old.recorder.total (record_state old) budget interrupts status more off) answered;
       keeps = keeps;
       tells = told_map (λ before after makes. inl (record {
         cause = inl (ap not off);
@@ -91,12 +90,12 @@ none_records old new interrupts status before after more off looked engine recor
 after_look : (irq : Bool) (first : List Event) (task : Task) (total : ℕ) (state : RecordState) (budget : ℕ) (called : List Event) (state' : RecordState) → IsBeforeRun irq first → records_on state.tally.course.recorded ≡ true
     → IsCalled task total state (values_of called) called state'
     → ((interrupts status : ℕ) → IsCalled task total state (values_of (input_interrupt_accesses interrupts status ++ called)) called state')
-    → IsRuleStretch (record_rules task total) state (Some (line_of irq budget)) (first ++ called) state'
+    → IsRecordStretch task total state (Some (line_of irq budget)) (first ++ called) state'
 after_look true first task total state budget called state' before more plain looked =
-    subst (λ (first : List Event). IsRuleStretch (record_rules task total) state (Some (line_of true budget)) (first ++ called) state') (sym before.is)
+    subst (λ (first : List Event). IsRecordStretch task total state (Some (line_of true budget)) (first ++ called) state') (sym before.is)
     (found_stretch task total state budget before.interrupts before.status called state' more before.on (looked before.interrupts before.status))
 after_look false first task total state budget called state' before more plain looked =
-    subst (λ (first : List Event). IsRuleStretch (record_rules task total) state (Some (line_of false budget)) (first ++ called) state') (sym before)
+    subst (λ (first : List Event). IsRecordStretch task total state (Some (line_of false budget)) (first ++ called) state') (sym before)
     (called_stretch task total state budget called state' more plain)
 
 -- ---- the first run
@@ -115,7 +114,7 @@ measured driver new task facts of is =
 
 begins_is : (irq : Bool) (old new : RecordingState) (first : List Event) (task : Task) (budget : ℕ) (before after : Option Telling) → IsBeforeRun irq first → IsTaskOfRecording old task → records_on old.recorder.course.recorded ≡ true
     → (now : BeginsNow old.engine new.engine old.recorder new.recorder before after)
-    → IsRuleStretch (record_rules task old.recorder.total) (record_state old) (Some (line_of irq budget))
+    → IsRecordStretch task old.recorder.total (record_state old) (Some (line_of irq budget))
     (first ++ start_accesses old.recorder.geometry old.recorder.list.address (periods_of old.recorder) now.starts.from now.starts.in_reset now.starts.ready now.starts.to) (record_state new)
 begins_is irq old new first task budget before after is_before of more now =
     let from = now.starts.from in
@@ -127,8 +126,8 @@ begins_is irq old new first task budget before after is_before of more now =
     let called = start_made task from in_reset ready to in
     let recording = on_records old.recorder.course.recorded more in
     let tally = measured old new task (facts_of from 0 to) of now.starts.tally_is in
-    let rings = ap (λ (engine : Engine). engine.rings) now.engine_is in
-    subst (λ (called : List Event). IsRuleStretch (record_rules task total) state (Some (line_of irq budget)) (first ++ called) (record_state new)) (start_same old task from in_reset ready to of)
+    let rings = ap (λ (engine : EngineState). engine.rings) now.engine_is in
+    subst (λ (called : List Event). IsRecordStretch task total state (Some (line_of irq budget)) (first ++ called) (record_state new)) (start_same old task from in_reset ready to of)
     (after_look irq first task total state budget called (record_state new) is_before more
     (begins_called task total state (record_state new) (values_of called) from in_reset ready to now.fresh recording (start_clocks task from in_reset ready to) (start_position task from in_reset ready to) tally rings)
     (λ interrupts status.
@@ -143,7 +142,7 @@ begins_records irq old new first before middle after is_before looked more now k
       made = first ++ run;
       are = accesses_both first run (before_are irq first is_before) (start_are old.recorder.geometry old.recorder.list.address (periods_of old.recorder) starts.from starts.in_reset starts.ready starts.to);
       by = row_both looked starts.made;
-      is = λ task budget of. begins_is irq old new first task budget middle after is_before of more now;
+      is = λ task budget answered of. begins_is irq old new first task budget middle after is_before of more now answered;
       keeps = keeps;
       tells = told_map (λ before after both. inr (inl (record {
         fresh = now.fresh;
@@ -195,7 +194,7 @@ run_answered old answer new before after runs = subst (λ (answer : Recorded). R
 
 goes_is : (irq : Bool) (old new : RecordingState) (first : List Event) (task : Task) (budget : ℕ) (before after : Option Telling) → IsBeforeRun irq first → IsTaskOfRecording old task → records_on old.recorder.course.recorded ≡ true → old.engine.rings.outstanding ≡ None
     → (now : GoesOnNow old.engine new.engine old.recorder new.recorder before after)
-    → IsRuleStretch (record_rules task old.recorder.total) (record_state old) (Some (line_of irq budget))
+    → IsRecordStretch task old.recorder.total (record_state old) (Some (line_of irq budget))
     (first ++ run_made old.engine.rirb.address old.engine.rings old.recorder.geometry (periods_of old.recorder) old.recorder.course.read now.listens.reads (facts_of now.records.from now.records.lpib now.records.to) now.records.pieces
     (stop_accesses new.recorder.course.recorded)) (record_state new)
 goes_is irq old new first task budget before after is_before of more idle now =
@@ -210,7 +209,7 @@ goes_is irq old new first task budget before after is_before of more idle now =
     let tally = measured old new task facts of now.records.tally_is in
     let sizes = sized old task facts pieces of now.records.sizes in
     let sees = run_seen task.blocks.rirb state.rings task.geometry task.blocks.periods state.tally.course.read reads facts pieces (stop_accesses recorded) (no_stop WALCLK recorded) (no_stop POSITION recorded) in
-    subst (λ (called : List Event). IsRuleStretch (record_rules task total) state (Some (line_of irq budget)) (first ++ called) (record_state new)) (made_same old task reads facts pieces (stop_accesses recorded) of)
+    subst (λ (called : List Event). IsRecordStretch task total state (Some (line_of irq budget)) (first ++ called) (record_state new)) (made_same old task reads facts pieces (stop_accesses recorded) of)
     (after_look irq first task total state budget called (record_state new) is_before more
     (goes_called task total state (record_state new) (values_of called) reads facts pieces now.started recording idle now.listens.new_ones sizes sees tally now.listens.rings)
     (λ interrupts status.
@@ -229,7 +228,7 @@ goes_records irq old new first before middle after is_before looked more idle no
       are = accesses_both first (poll ++ run) (before_are irq first is_before)
           (accesses_both poll run (poll_are old.engine.rirb.address old.engine.rings reads) (run_are old.recorder facts runs.pieces new.recorder.course.recorded));
       by = row_both looked (row_both now.listens.made runs.made);
-      is = λ task budget of. goes_is irq old new first task budget middle after is_before of more idle now;
+      is = λ task budget answered of. goes_is irq old new first task budget middle after is_before of more idle now answered;
       keeps = keeps;
       tells = told_map (λ before after both. inr (inr (record {
         started = now.started;

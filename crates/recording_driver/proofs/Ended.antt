@@ -16,14 +16,12 @@ use Rattle.hda_capture.specs.Recorders.{RecorderState, periods_of}
 use Rattle.driver_progress.specs.Shutting.{shut_accesses}
 use Rattle.driver_progress.specs.Tasks.{Task}
 use Rattle.driver_progress.proofs.Callers.{accesses_both}
-use Rattle.driver_rules.specs.Onward.{IsRuleStretch}
-use Rattle.recording_driver.specs.RecordRules.{record_rules}
 use Rattle.recording_driver.specs.RecordingDrivers.{RecordingState, record_state, KeepsRecording, IsTaskOfRecording}
 use Rattle.recording_driver.specs.RecordingCalls.{last_stop, EndsRecord}
 use Rattle.recording_driver.specs.RecordingSteps.{IsStillNow, StopsNow, EndsNow}
 use Rattle.recording_driver.proofs.Kept.{on_records}
 use Rattle.recording_driver.proofs.Accesses.{poll_are, run_are, last_are, shut_are}
-use Rattle.recording_driver.proofs.Stretches.{run_made, shuts_stretch, stops_stretch, stop_last}
+use Rattle.recording_driver.proofs.Stretches.{run_made, IsRecordStretch, shuts_stretch, stops_stretch, stop_last}
 use Rattle.recording_driver.proofs.Called.{same_state, leads_as, measured, made_same, sized}
 
 -- ---- the stream does not record
@@ -35,9 +33,9 @@ still_ends old ended before middle after now shut keeps =
       made = shut_accesses;
       are = shut_are;
       by = made;
-      is = λ task of.
+      is = λ task answered of.
           leads_as task old.recorder.total (record_state old) None shut_accesses (record_state old) (record_state ended) (same_state old ended now.engine_is now.recorder_is)
-          (shuts_stretch task old.recorder.total (record_state old) now.still);
+          (shuts_stretch task old.recorder.total (record_state old) now.still) answered;
       keeps = keeps;
       tells = told_map (λ before after shut. inl (record { still = now.still; made_is = refl; engine = now.engine_is; recorder = now.recorder_is })) made;
     }
@@ -67,14 +65,14 @@ made_last old ended before after now =
 
 stops_is : (old ended : RecordingState) (task : Task) (before after : Option Telling) → IsTaskOfRecording old task → old.engine.rings.outstanding ≡ None
     → (now : StopsNow old.engine ended.engine old.recorder ended.recorder before after)
-    → IsRuleStretch (record_rules task old.recorder.total) (record_state old) None
+    → IsRecordStretch task old.recorder.total (record_state old) None
     (poll_accesses old.engine.rirb.address old.engine.rings now.listens.reads
     ++ (record_accesses old.recorder (facts_of now.records.from now.records.lpib now.records.to) now.records.pieces ended.recorder.course.recorded ++ (last_stop ended.recorder.course.recorded ++ shut_accesses))) (record_state ended)
 stops_is old ended task before after of idle now =
     let reads = now.listens.reads in
     let facts = facts_of now.records.from now.records.lpib now.records.to in
     let pieces = now.records.pieces in
-    subst (λ (made : List Event). IsRuleStretch (record_rules task old.recorder.total) (record_state old) None made (record_state ended))
+    subst (λ (made : List Event). IsRecordStretch task old.recorder.total (record_state old) None made (record_state ended))
     (made_same old task reads facts pieces (Write CONTROL One 0 ∷ shut_accesses) of ∙ made_last old ended before after now)
     (stops_stretch task old.recorder.total (record_state old) (record_state ended) reads facts pieces now.started now.more (on_records old.recorder.course.recorded now.more) idle now.listens.new_ones
     (sized old task facts pieces of now.records.sizes) (measured old ended task facts of now.records.tally_is) now.listens.rings)
@@ -93,7 +91,7 @@ stops_ends old ended before middle after idle now shut keeps =
       are = accesses_both poll (run ++ (last ++ shut_accesses)) (poll_are old.engine.rirb.address old.engine.rings reads)
           (accesses_both run (last ++ shut_accesses) (run_are old.recorder facts runs.pieces recorded) (accesses_both last shut_accesses (last_are recorded) shut_are));
       by = row_both now.listens.made (row_both runs.made (row_both now.stopped shut));
-      is = λ task of. stops_is old ended task before middle of idle now;
+      is = λ task answered of. stops_is old ended task before middle of idle now answered;
       keeps = keeps;
       tells = told_map (λ before after both. inr (record {
         started = now.started;

@@ -44,7 +44,7 @@ beside_on address address' old new at keeps beside = record {
 }
 
 -- a driver is one after a call
-pub called_on : (old new : RecordingState) → IsRecordingDriver old → old.calls < old.runs → new.engine.rings.started ≡ old.engine.rings.started → new.engine.rings.outstanding ≡ None → new.engine.events.items ≡ []
+pub called_on : (old new : RecordingState) → IsRecordingDriver old → old.calls < old.runs → new.engine.rings.started ≡ old.engine.rings.started → new.engine.rings.outstanding ≡ None → new.engine.events ≡ []
     → new.engine.corb ≡ old.engine.corb → new.engine.rirb ≡ old.engine.rirb → KeepsRecorderRing old.recorder new.recorder → length new.recorder.runs ≤ length old.recorder.runs + 1
     → new.pool ≡ old.pool → new.runs ≡ old.runs → new.calls ≡ old.calls + 1 → IsRecordingDriver new
 called_on old new is few started idle quiet corb rirb keeps recorded pool runs calls = record {

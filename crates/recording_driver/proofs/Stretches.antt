@@ -297,6 +297,10 @@ looked_seen interrupts status called reads facts sees = record {
 
 -- ---- stretches of lines
 
+-- they go by the rules whether something was answered or not
+abbrev pub IsRecordStretch : Task → (total : ℕ) → RecordState → Option DriverLine → (made : List Event) → RecordState → Type 0
+IsRecordStretch task total state turn made state' = (answered : Bool) → IsRuleStretch (record_rules task total) state turn made answered state'
+
 abbrev pub line_of : (irq : Bool) → (budget : ℕ) → DriverLine
 line_of irq budget = record { irq = irq; budget = budget }
 
@@ -320,8 +324,8 @@ called_leads task total state line values called state' more found is =
 
 -- a call
 pub called_stretch : (task : Task) (total : ℕ) (state : RecordState) (budget : ℕ) (called : List Event) (state' : RecordState) → records_on state.tally.course.recorded ≡ true
-    → IsCalled task total state (values_of called) called state' → IsRuleStretch (record_rules task total) state (Some (line_of false budget)) called state'
-called_stretch task total state budget called state' more is = record {
+    → IsCalled task total state (values_of called) called state' → IsRecordStretch task total state (Some (line_of false budget)) called state'
+called_stretch task total state budget called state' more is = λ answered. record {
   fits = is.fits ∙ ap (λ (more : Bool). if more then record_runs task total state (values_of called) else []) (sym more);
   leads = called_leads task total state (line_of false budget) (values_of called) called state' more refl is;
 }
@@ -329,8 +333,8 @@ called_stretch task total state budget called state' more is = record {
 -- one for an interrupt that found it
 pub found_stretch : (task : Task) (total : ℕ) (state : RecordState) (budget interrupts status : ℕ) (called : List Event) (state' : RecordState) → records_on state.tally.course.recorded ≡ true → has_bit interrupts 31 ≡ true
     → IsCalled task total state (values_of (input_interrupt_accesses interrupts status ++ called)) called state'
-    → IsRuleStretch (record_rules task total) state (Some (line_of true budget)) (input_interrupt_accesses interrupts status ++ called) state'
-found_stretch task total state budget interrupts status called state' more on is =
+    → IsRecordStretch task total state (Some (line_of true budget)) (input_interrupt_accesses interrupts status ++ called) state'
+found_stretch task total state budget interrupts status called state' more on is = λ answered.
     let values = values_of (input_interrupt_accesses interrupts status ++ called) in record {
       fits = found_fits interrupts status values called on refl (look_status interrupts status called on)
           ∙ ap (λ (requests : List Request). record_interrupted_if true values requests) is.fits
@@ -354,8 +358,8 @@ none_read true register interrupts status off = cc
 none_read false register interrupts status off = refl
 
 pub none_stretch : (task : Task) (total : ℕ) (state : RecordState) (budget interrupts status : ℕ) → records_on state.tally.course.recorded ≡ true → has_bit interrupts 31 ≡ false
-    → IsRuleStretch (record_rules task total) state (Some (line_of true budget)) (input_interrupt_accesses interrupts status) state
-none_stretch task total state budget interrupts status more off =
+    → IsRecordStretch task total state (Some (line_of true budget)) (input_interrupt_accesses interrupts status) state
+none_stretch task total state budget interrupts status more off = λ answered.
     let values = values_of (input_interrupt_accesses interrupts status) in
     let line = line_of true budget in record {
       fits = ap (λ (rest : List Request). Gets INTSTS Four ∷ rest)
@@ -374,8 +378,8 @@ unmore true false none over = refl
 unmore false more none over = refl
 
 pub over_stretch : (task : Task) (total : ℕ) (state : RecordState) (irq : Bool) (budget : ℕ) → records_on state.tally.course.recorded ≡ false
-    → IsRuleStretch (record_rules task total) state (Some (line_of irq budget)) [] state
-over_stretch task total state irq budget over =
+    → IsRecordStretch task total state (Some (line_of irq budget)) [] state
+over_stretch task total state irq budget over = λ answered.
     let values = values_of [] in
     let line = line_of irq budget in record {
       fits = ap (λ (more : Bool). if more then record_interrupted_if irq values (record_runs task total state values) else []) (sym over);
@@ -397,8 +401,8 @@ still_is true false still = refl
 still_is false more still = refl
 
 pub shuts_stretch : (task : Task) (total : ℕ) (state : RecordState) → (state.tally.course.started ≡ false) ⊎ (records_on state.tally.course.recorded ≡ false)
-    → IsRuleStretch (record_rules task total) state None shut_accesses state
-shuts_stretch task total state still =
+    → IsRecordStretch task total state None shut_accesses state
+shuts_stretch task total state still = λ answered.
     let values = values_of shut_accesses in
     let is = still_is state.tally.course.started (records_on state.tally.course.recorded) still in record {
       fits = ap (λ (records : Bool). if records then record_goes_on task total state values (Puts CONTROL One 0 ∷ shuts) else shuts) (sym is);
@@ -410,8 +414,8 @@ shuts_stretch task total state still =
 pub stops_stretch : (task : Task) (total : ℕ) (state state' : RecordState) (reads : PollReads) (facts : RecordFacts) (pieces : List (List ℕ)) → state.tally.course.started ≡ true → records_on state.tally.course.recorded ≡ true → state.tally.course.recorded ≡ Recording
     → state.rings.outstanding ≡ None → AreNew state.rings reads → AreSized task total state facts pieces
     → state'.tally ≡ tally_after (measures_for task total) state.tally facts → state'.rings ≡ rings_polled state.rings reads
-    → IsRuleStretch (record_rules task total) state None (made_for task state reads facts pieces (Write CONTROL One 0 ∷ shut_accesses)) state'
-stops_stretch task total state state' reads facts pieces started more recording idle new sized tally_is rings_are =
+    → IsRecordStretch task total state None (made_for task state reads facts pieces (Write CONTROL One 0 ∷ shut_accesses)) state'
+stops_stretch task total state state' reads facts pieces started more recording idle new sized tally_is rings_are = λ answered.
     let after = Write CONTROL One 0 ∷ shut_accesses in
     let values = values_of (made_for task state reads facts pieces after) in
     let sees = run_seen task.blocks.rirb state.rings task.geometry task.blocks.periods state.tally.course.read reads facts pieces after refl refl in

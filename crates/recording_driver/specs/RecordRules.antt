@@ -150,6 +150,12 @@ module _ (task : Task) (total : ℕ) where
     tally = record_tally_next state values;
   }
 
-  -- the rules of a driver with these blocks that is to record so many bytes
+  -- the rules of a driver with these blocks that is to record so many bytes. They ask nobody, and of what a stretch found
+  -- they go by the values of registers alone
   abbrev pub record_rules : Rules RecordState
-  record_rules = record { begin = record_begun; expected = record_expected; next = record_next }
+  record_rules = record {
+    begin = record_begun;
+    asked = λ state. None;
+    expected = λ state turn findings. record_expected state turn findings.values;
+    next = λ state turn findings. record_next state turn findings.values;
+  }

@@ -79,14 +79,14 @@ RecordTells irq old new made before after =
     ⊎ GoesOnRecord irq old new made before after)
 
 -- a call, for an interrupt or not: it makes just the accesses that the rules expect, and leads where they say, for
--- every task with its blocks and every budget, which is not looked at
+-- every task with its blocks and every budget, which is not looked at. Nothing is asked, so no answer is looked for
 pub record Records (irq : Bool) (old new : RecordingState) (before after : Option Telling) : Type 0 where
   pub made : List Event
   pub are : AreAccesses made
   pub by : Between (Makes made) before after
-  pub is : (task : Task) (budget : ℕ) → IsTaskOfRecording old task
+  pub is : (task : Task) (budget : ℕ) (answered : Bool) → IsTaskOfRecording old task
       → IsRuleStretch (record_rules task old.recorder.total) (record_state old)
-      (Some (record { irq = irq; budget = budget })) made (record_state new)
+      (Some (record { irq = irq; budget = budget })) made answered (record_state new)
   pub keeps : KeepsRecording old new
   pub tells : Between (RecordTells irq old new made) before after
 
@@ -128,7 +128,7 @@ pub record EndsRecord (old ended : RecordingState) (before after : Option Tellin
   pub made : List Event
   pub are : AreAccesses made
   pub by : Between (Makes made) before after
-  pub is : (task : Task) → IsTaskOfRecording old task
-      → IsRuleStretch (record_rules task old.recorder.total) (record_state old) None made (record_state ended)
+  pub is : (task : Task) (answered : Bool) → IsTaskOfRecording old task
+      → IsRuleStretch (record_rules task old.recorder.total) (record_state old) None made answered (record_state ended)
   pub keeps : KeepsRecording old ended
   pub tells : Between (λ before after. ShutsStill old ended made ⊎ StopsRecord old ended made before after) before after

@@ -5,7 +5,7 @@ use Rattle.route_planner.specs.declared.routes.Plan.{Plan}
 use Rattle.dma_pool.specs.Blocks.{run_at}
 use Rattle.dma_pool.specs.Pools.{PoolState}
 use Rattle.command_engine.specs.Blocks.{corb_bytes, rirb_bytes}
-use Rattle.command_engine.specs.declared.engine.Engine.{Engine}
+use Rattle.command_engine.specs.Engines.{EngineState}
 use Rattle.period_writer.specs.Rings.{period_bytes, list_bytes}
 use Rattle.period_writer.specs.Blocks.{are_apart, IsBesideAll}
 use Rattle.period_writer.specs.Opening.{OpensWriter, GivesBack, HasNoRuns, HasRuns}
@@ -23,7 +23,7 @@ use Rattle.recording_driver.specs.RecordRules.{RecordState}
 -- a driver that records: both sides of it, the pool that their blocks were taken from, what the bring-up left, how many
 -- calls there may be, and how many there were
 pub record RecordingState : Type 0 where
-  pub engine : Engine
+  pub engine : EngineState
   pub recorder : RecorderState
   pub pool : PoolState
   pub graphs : List RawCodec
@@ -59,7 +59,7 @@ pub record IsBesideRecorder (address bytes : ℕ) (recorder : RecorderState) : T
 pub record IsRecordingDriver (driver : RecordingState) : Type 0 where
   pub started : driver.engine.rings.started ≡ true
   pub idle : driver.engine.rings.outstanding ≡ None
-  pub quiet : driver.engine.events.items ≡ []
+  pub quiet : driver.engine.events ≡ []
   pub owns_corb : Contains driver.pool.taken (run_at driver.engine.corb.address corb_bytes)
   pub owns_rirb : Contains driver.pool.taken (run_at driver.engine.rirb.address rirb_bytes)
   pub owns_ring : OwnsBlocks driver.pool.taken driver.recorder

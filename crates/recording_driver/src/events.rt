@@ -8,12 +8,12 @@ use hda_platform::Platform;
 
 /// Looks for what codecs told unasked, and drops it. Nothing is outstanding.
 pub(crate) fn listen<P: Platform>(platform: &mut P, engine: &mut Engine)
-    requires quiet { engine.old.events.items ≡ [] }
+    requires quiet { engine.old.events ≡ [] }
     requires idle { engine.old.rings.outstanding ≡ None }
     requires room { POLL_ACCESSES ≤ P.spare_accesses platform.old }
     requires bytes_room { POLL_BYTES ≤ P.spare_bytes platform.old }
     ensures listens { ListensTo engine.old engine.new (P.told platform.old) (P.told platform.new) }
-    ensures quiet { engine.new.events.items ≡ [] }
+    ensures quiet { engine.new.events ≡ [] }
     ensures idle { engine.new.rings.outstanding ≡ None }
     ensures corb { engine.new.corb ≡ engine.old.corb }
     ensures rirb { engine.new.rirb ≡ engine.old.rirb }
@@ -27,7 +27,7 @@ pub(crate) fn listen<P: Platform>(platform: &mut P, engine: &mut Engine)
 
 /// Drops all events that are left.
 fn drop_events(engine: &mut Engine)
-    ensures events { engine.new.events.items ≡ [] }
+    ensures events { engine.new.events ≡ [] }
     ensures rings { engine.new.rings ≡ engine.old.rings }
     ensures corb { engine.new.corb ≡ engine.old.corb }
     ensures rirb { engine.new.rirb ≡ engine.old.rirb }

@@ -96,7 +96,7 @@ fn poll_once(
 ) -> Option<Poll>
     requires accesses { 400 ≤ ⟦<Scripted as Platform>⟧.spare_accesses platform.old }
     requires bytes { 4000 ≤ ⟦<Scripted as Platform>⟧.spare_bytes platform.old }
-    requires events { engine.old.events.items ≡ [] }
+    requires events { engine.old.events ≡ [] }
     ensures corb { engine.new.corb ≡ engine.old.corb }
     ensures rirb { engine.new.rirb ≡ engine.old.rirb }
 {

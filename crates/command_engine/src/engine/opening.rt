@@ -2,6 +2,8 @@
 ghost use Rattle.std.specs.Prelude.{◌≡◌, [], Contains, IfOk, OnErr};
 ghost use Rattle.dma_pool.specs.Blocks.{run_at};
 ghost use Rattle.command_engine.specs.Blocks.{corb_bytes, rirb_bytes};
+ghost use Rattle.command_engine.specs.Fetchings.{HasBlocks};
+ghost use Rattle.hda_world.specs.declared.world.TheConstants.{REGION_BYTES};
 ghost use Rattle.command_engine.specs.Opening as spec;
 
 use super::{CORB_BYTES, Engine, MOST_EVENTS, RIRB_BYTES};
@@ -22,8 +24,9 @@ impl Engine {
             spec.OpensEngine pool.old engine.corb.address engine.rirb.address pool.new) }
         ensures owns_corb { IfOk result (λ engine. Contains pool.new.taken (run_at engine.corb.address corb_bytes)) }
         ensures owns_rirb { IfOk result (λ engine. Contains pool.new.taken (run_at engine.rirb.address rirb_bytes)) }
+        ensures blocks { IfOk result (λ engine. HasBlocks engine.corb.address engine.rirb.address REGION_BYTES) }
         ensures rings { IfOk result (λ engine. engine.rings ≡ spec.rings_opened) }
-        ensures events { IfOk result (λ engine. engine.events.items ≡ []) }
+        ensures events { IfOk result (λ engine. engine.events ≡ []) }
         ensures no_run { result ≡ Err OpenFault.NoRun → spec.HasNoRuns pool.old }
         ensures no_memory { result ≡ Err OpenFault.OutOfMemory → spec.HasRuns pool.old }
         ensures unchanged { OnErr result (pool.new ≡ pool.old) }

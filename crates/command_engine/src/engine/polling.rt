@@ -39,13 +39,13 @@ impl Engine {
     /// the queue holds 256 events.
     #[tactic(auto, using(hda_world::proofs::Callers::rows))]
     pub fn poll<P: Platform>(&mut self, platform: &mut P, clock: u32) -> Poll
-        requires events { self.old.events.items ≡ [] }
+        requires events { self.old.events ≡ [] }
         requires room { POLL_ACCESSES ≤ P.spare_accesses platform.old }
         requires bytes_room { POLL_BYTES ≤ P.spare_bytes platform.old }
         ensures polls { spec.Polls self.old.rirb.address clock self.old.rings result self.new.rings
-            self.new.events.items (P.told platform.old) (P.told platform.new) }
+            self.new.events (P.told platform.old) (P.told platform.new) }
         ensures tells { Between (told.PollTellsOf clock self.old.corb.address self.old.rirb.address self.old.rings
-            result self.new.rings self.new.events.items) (P.told platform.old) (P.told platform.new) }
+            result self.new.rings self.new.events) (P.told platform.old) (P.told platform.new) }
         ensures corb { self.new.corb ≡ self.old.corb }
         ensures rirb { self.new.rirb ≡ self.old.rirb }
         ensures fixed { P.fixed platform.new ≡ P.fixed platform.old }
@@ -61,8 +61,8 @@ impl Engine {
 
     /// The oldest event that is left. `None` exactly where none is left.
     pub fn next_event(&mut self) -> Option<Event>
-        ensures oldest { result ≡ slice_get self.old.events.items 0 }
-        ensures events { self.new.events.items ≡ drop 1 self.old.events.items }
+        ensures oldest { result ≡ slice_get self.old.events 0 }
+        ensures events { self.new.events ≡ drop 1 self.old.events }
         ensures rings { self.new.rings ≡ self.old.rings }
         ensures corb { self.new.corb ≡ self.old.corb }
         ensures rirb { self.new.rirb ≡ self.old.rirb }
@@ -72,11 +72,11 @@ impl Engine {
 
     /// Reads the new entries where the flag says that responses were written, and gives the answer among them.
     fn read_new<P: Platform>(&mut self, platform: &mut P, flag: u32) -> Option<u32>
-        requires events { self.old.events.items ≡ [] }
+        requires events { self.old.events ≡ [] }
         requires room { BATCH_ACCESSES ≤ P.spare_accesses platform.old }
         requires bytes_room { POLL_BYTES ≤ P.spare_bytes platform.old }
         ensures reads { reading.ReadsNew self.old.rirb.address self.old.rings flag result self.new.rings
-            self.new.events.items (P.told platform.old) (P.told platform.new) }
+            self.new.events (P.told platform.old) (P.told platform.new) }
         ensures corb { self.new.corb ≡ self.old.corb }
         ensures rirb { self.new.rirb ≡ self.old.rirb }
         ensures fixed { P.fixed platform.new ≡ P.fixed platform.old }
@@ -92,11 +92,11 @@ impl Engine {
 
     /// Reads the new entries, and gives the answer among them.
     fn read_batch<P: Platform>(&mut self, platform: &mut P) -> Option<u32>
-        requires events { self.old.events.items ≡ [] }
+        requires events { self.old.events ≡ [] }
         requires room { BATCH_ACCESSES ≤ P.spare_accesses platform.old }
         requires bytes_room { POLL_BYTES ≤ P.spare_bytes platform.old }
         ensures reads { reading.ReadsBatch self.old.rirb.address self.old.rings result self.new.rings
-            self.new.events.items (P.told platform.old) (P.told platform.new) }
+            self.new.events (P.told platform.old) (P.told platform.new) }
         ensures corb { self.new.corb ≡ self.old.corb }
         ensures rirb { self.new.rirb ≡ self.old.rirb }
         ensures fixed { P.fixed platform.new ≡ P.fixed platform.old }

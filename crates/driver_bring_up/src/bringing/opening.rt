@@ -33,7 +33,7 @@ impl BringUp {
     /// # Errors
     /// Want of memory, with the engine.
     pub fn new(alloc: Global, format: Format, engine: Engine) -> Result<BringUp, Engine>
-        requires quiet { engine.events.items ≡ [] }
+        requires quiet { engine.events ≡ [] }
         ensures given_back { IfErr result (λ given. given ≡ engine) }
         ensures phase { IfOk result (λ bring_up. bring_up.phase ≡ phases.Reset) }
         ensures engine { IfOk result (λ bring_up. bring_up.engine ≡ engine) }

@@ -1,5 +1,7 @@
 //! How the stream plays on.
-ghost use Rattle.std.specs.Prelude.{◌≡◌, ◌≤◌, ◌<◌, ◌+◌, true, length};
+ghost use Rattle.std.specs.Prelude.{◌≡◌, ◌≤◌, ◌<◌, ◌+◌, true, [], ◌∷◌, length};
+ghost use Rattle.hda_registers.specs.declared.shapes.Width.TheVariants.{One};
+ghost use Rattle.hda_world.specs.Events.{Write};
 ghost use Rattle.hda_world.specs.Tellings.{Between, Makes};
 ghost use Rattle.wav_reader.specs.Supplies.{Suffices, IsTaken};
 ghost use Rattle.period_writer.specs.Playing.{stop_accesses};
@@ -111,6 +113,22 @@ impl Writer {
         let ran = self.take_turn(platform, supply, 0);
         platform.write(CONTROL, Width::One, STOP);
         ran
+    }
+
+    /// Stops the stream at once, by one write of CTL (HDA 1.0a, 3.3.35): no run is made and nothing is recorded. For a
+    /// driver that gives up while it plays. This project's own.
+    ///
+    /// On a platform that tells, where the writer plays: the stream is stopped without an error, and what was fetched is
+    /// the line up to the last recorded reach.
+    pub fn stop<P: Platform>(&mut self, platform: &mut P)
+        requires { 1 ≤ P.spare_accesses platform.old }
+        ensures made { Between (Makes (Write CONTROL One 0 ∷ [])) (P.told platform.old) (P.told platform.new) }
+        ensures same { self.new ≡ self.old }
+        ensures fixed { P.fixed platform.new ≡ P.fixed platform.old }
+        ensures accesses { P.spare_accesses platform.new + 1 ≡ P.spare_accesses platform.old }
+        ensures bytes { P.spare_bytes platform.new ≡ P.spare_bytes platform.old }
+    {
+        platform.write(CONTROL, Width::One, STOP);
     }
 
     /// A run up to its stop.

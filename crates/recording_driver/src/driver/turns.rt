@@ -43,7 +43,7 @@ pub(super) fn records_on(recorder: &Recorder) -> bool
 
 /// The first run, or a look for what codecs told unasked and a later one.
 pub(super) fn record<P: Platform>(platform: &mut P, engine: &mut Engine, recorder: &mut Recorder)
-    requires quiet { engine.old.events.items ≡ [] }
+    requires quiet { engine.old.events ≡ [] }
     requires idle { engine.old.rings.outstanding ≡ None }
     requires more { rules.records_on recorder.old.course.recorded ≡ true }
     requires free { length recorder.old.runs < recorder.old.records }
@@ -51,7 +51,7 @@ pub(super) fn record<P: Platform>(platform: &mut P, engine: &mut Engine, recorde
     requires bytes_room { ring_size recorder.old + POLL_BYTES ≤ P.spare_bytes platform.old }
     ensures records { spec.RecordsNow engine.old engine.new recorder.old recorder.new
         (P.told platform.old) (P.told platform.new) }
-    ensures quiet { engine.new.events.items ≡ [] }
+    ensures quiet { engine.new.events ≡ [] }
     ensures idle { engine.new.rings.outstanding ≡ None }
     ensures started { engine.new.rings.started ≡ engine.old.rings.started }
     ensures corb { engine.new.corb ≡ engine.old.corb }
@@ -78,7 +78,7 @@ pub(super) fn end_record<P: Platform>(
     engine: &mut Engine,
     recorder: &mut Recorder,
 )
-    requires quiet { engine.old.events.items ≡ [] }
+    requires quiet { engine.old.events ≡ [] }
     requires idle { engine.old.rings.outstanding ≡ None }
     requires free { length recorder.old.runs < recorder.old.records }
     requires room { POLL_ACCESSES + MOST_RECORD_ACCESSES + 1 ≤ P.spare_accesses platform.old }

@@ -14,7 +14,7 @@ returns-clause-tells g c =
     let rirb = c.args.engine.now.rirb.address in
     let rings = c.args.engine.now.rings in
     let clock = c.read-clock.result in
-    let polls = PollTellsOf clock corb rirb rings c.poll-poll.result c.poll-poll.new.self.rings c.poll-poll.new.self.events.items in
+    let polls = PollTellsOf clock corb rirb rings c.poll-poll.result c.poll-poll.new.self.rings c.poll-poll.new.self.events in
     told_map {Before = Then (λ (old : Telling) (mid : Telling). Accessed old mid (Read 0x30 Four clock)) polls} {After = polls}
     (λ (old : Telling) (new : Telling) both from read stands.
     both.2 from read

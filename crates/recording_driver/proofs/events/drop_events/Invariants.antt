@@ -8,4 +8,4 @@ invariant-loop-event l =
     × (l.engine.rirb ≡ l.initial.engine.rirb)
 
 abbrev pub decreases-loop-event : goal.decreases-loop-event
-decreases-loop-event l = length l.engine.events.items
+decreases-loop-event l = length l.engine.events

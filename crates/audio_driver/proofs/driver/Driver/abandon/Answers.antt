@@ -1,7 +1,7 @@
 use Rattle.std.proofs.Common.{sym, subst}
 use Rattle.std.specs.Prelude.{Contains}
 use Rattle.dma_pool.specs.Blocks.{run_at}
-use Rattle.command_engine.specs.declared.engine.Engine.{Engine}
+use Rattle.command_engine.specs.Engines.{EngineState}
 use Rattle.command_engine.specs.Blocks.{corb_bytes, rirb_bytes}
 use Rattle.period_writer.specs.Writers.{periods_of}
 use Rattle.audio_driver.specs.Closing.{GivesBack}
@@ -10,16 +10,16 @@ use Rattle.audio_driver.proofs.driver.Driver.abandon.Goals as goal
 
 pub give_back-requires-clause-corb : goal.give_back-requires-clause-corb
 give_back-requires-clause-corb g c =
-    subst (λ (engine : Engine). Contains c.self.inside.pool.taken (run_at engine.corb.address corb_bytes)) (sym c.parts-engine.ensures.engine) c.self.invariant.owns_corb
+    subst (λ (engine : EngineState). Contains c.self.inside.pool.taken (run_at engine.corb.address corb_bytes)) (sym c.parts-engine.ensures.engine) c.self.invariant.owns_corb
 
 pub give_back-requires-clause-rirb : goal.give_back-requires-clause-rirb
 give_back-requires-clause-rirb g c =
-    subst (λ (engine : Engine). Contains c.self.inside.pool.taken (run_at engine.rirb.address rirb_bytes)) (sym c.parts-engine.ensures.engine) c.self.invariant.owns_rirb
+    subst (λ (engine : EngineState). Contains c.self.inside.pool.taken (run_at engine.rirb.address rirb_bytes)) (sym c.parts-engine.ensures.engine) c.self.invariant.owns_rirb
 
 pub returns-clause-gives : goal.returns-clause-gives
 returns-clause-gives g c =
     let writer = c.self.inside.writer in
-    rw (← c.self.view_is) (subst (λ (one : Engine). GivesBack writer.geometry c.self.inside.pool one.corb.address one.rirb.address writer.list.address (periods_of writer) c.give_back.new.pool) c.parts-engine.ensures.engine c.give_back.ensures.gives)
+    rw (← c.self.view_is) (subst (λ (one : EngineState). GivesBack writer.geometry c.self.inside.pool one.corb.address one.rirb.address writer.list.address (periods_of writer) c.give_back.new.pool) c.parts-engine.ensures.engine c.give_back.ensures.gives)
 
 pub returns-clause-pool : goal.returns-clause-pool
 returns-clause-pool g c = λ before takes.

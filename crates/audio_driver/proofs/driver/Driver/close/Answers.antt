@@ -2,7 +2,7 @@ use Rattle.std.proofs.Common.{◌≡◌, ap, sym, subst, ◌∙◌}
 use Rattle.std.specs.Prelude.{Contains}
 use Rattle.dma_pool.specs.declared.blocks.Lent.{Lent}
 use Rattle.dma_pool.specs.Blocks.{run_at}
-use Rattle.command_engine.specs.declared.engine.Engine.{Engine}
+use Rattle.command_engine.specs.Engines.{EngineState}
 use Rattle.command_engine.specs.Blocks.{corb_bytes, rirb_bytes}
 use Rattle.period_writer.specs.Blocks.{addresses_of}
 use Rattle.period_writer.specs.Writers.{tally_of, periods_of}
@@ -13,12 +13,12 @@ use Rattle.audio_driver.proofs.driver.Driver.close.Goals as goal
 
 pub give_back-runs-requires-clause-corb : goal.give_back-runs-requires-clause-corb
 give_back-runs-requires-clause-corb g c =
-    let same = ap (λ (engine : Engine). engine.corb) c.parts-engine.ensures.engine ∙ c.end_call-ended.ensures.kept.corb in
+    let same = ap (λ (engine : EngineState). engine.corb) c.parts-engine.ensures.engine ∙ c.end_call-ended.ensures.kept.corb in
     subst (λ (lent : Lent). Contains c.self.inside.pool.taken (run_at lent.address corb_bytes)) (sym same) c.self.invariant.owns_corb
 
 pub give_back-runs-requires-clause-rirb : goal.give_back-runs-requires-clause-rirb
 give_back-runs-requires-clause-rirb g c =
-    let same = ap (λ (engine : Engine). engine.rirb) c.parts-engine.ensures.engine ∙ c.end_call-ended.ensures.kept.rirb in
+    let same = ap (λ (engine : EngineState). engine.rirb) c.parts-engine.ensures.engine ∙ c.end_call-ended.ensures.kept.rirb in
     subst (λ (lent : Lent). Contains c.self.inside.pool.taken (run_at lent.address rirb_bytes)) (sym same) c.self.invariant.owns_rirb
 
 pub give_back-runs-requires-clause-ring : goal.give_back-runs-requires-clause-ring
@@ -32,8 +32,8 @@ returns-in-Ok-clause-gives g c =
     let corb = c.self.inside.bring_up.engine.corb in
     let rirb = c.self.inside.bring_up.engine.rirb in
     let engine = c.parts-engine.result.engine in
-    let same_corb : engine.corb ≡ corb = ap (λ (one : Engine). one.corb) c.parts-engine.ensures.engine ∙ c.end_call-ended.ensures.kept.corb in
-    let same_rirb : engine.rirb ≡ rirb = ap (λ (one : Engine). one.rirb) c.parts-engine.ensures.engine ∙ c.end_call-ended.ensures.kept.rirb in
+    let same_corb : engine.corb ≡ corb = ap (λ (one : EngineState). one.corb) c.parts-engine.ensures.engine ∙ c.end_call-ended.ensures.kept.corb in
+    let same_rirb : engine.rirb ≡ rirb = ap (λ (one : EngineState). one.rirb) c.parts-engine.ensures.engine ∙ c.end_call-ended.ensures.kept.rirb in
     rw (← c.self.view_is)
     (gives_at writer.geometry after.geometry c.self.inside.pool corb.address engine.corb.address rirb.address engine.rirb.address writer.list.address after.list.address (periods_of writer) (periods_of after) c.give_back-runs.new.pool
     c.end_call-ended.ensures.keeps.geometry (ap (λ (lent : Lent). lent.address) same_corb) (ap (λ (lent : Lent). lent.address) same_rirb) (ap (λ (lent : Lent). lent.address) c.end_call-ended.ensures.keeps.list) (ap addresses_of c.end_call-ended.ensures.keeps.periods) c.give_back-runs.ensures.gives)

@@ -1,7 +1,7 @@
 use Rattle.std.proofs.Common.{◌≡◌, ◌∙◌, true, refl, sym, ap, subst}
 use Rattle.std.specs.Prelude.{Contains}
 use Rattle.dma_pool.specs.Blocks.{run_at}
-use Rattle.command_engine.specs.declared.engine.Engine.{Engine}
+use Rattle.command_engine.specs.Engines.{EngineState}
 use Rattle.command_engine.specs.Blocks.{corb_bytes, rirb_bytes}
 use Rattle.driver_progress.specs.Phases.{is_ready}
 use Rattle.driver_progress.proofs.Callers.{ready_is}
@@ -32,19 +32,19 @@ returns-clause-parts g c = rw (← c.self.view_is)
       sent = c.sent-sent.ensures;
       jacks = c.parts-engine.ensures.jacks;
       engine_idle = record {
-        started = ap (λ (engine : Engine). engine.rings.started) c.parts-engine.ensures.engine ∙ bring_up.runs before;
-        idle = ap (λ (engine : Engine). engine.rings.outstanding) c.parts-engine.ensures.engine ∙ bring_up.idle before;
-        quiet = ap (λ (engine : Engine). engine.events.items) c.parts-engine.ensures.engine ∙ bring_up.quiet;
+        started = ap (λ (engine : EngineState). engine.rings.started) c.parts-engine.ensures.engine ∙ bring_up.runs before;
+        idle = ap (λ (engine : EngineState). engine.rings.outstanding) c.parts-engine.ensures.engine ∙ bring_up.idle before;
+        quiet = ap (λ (engine : EngineState). engine.events) c.parts-engine.ensures.engine ∙ bring_up.quiet;
       };
       fresh = c.self.invariant.fresh (not_started writer.course.started bring_up.phase writer.course.ran ready);
       records = c.self.invariant.records;
       blocks = record {
-        owns_corb = subst (λ (engine : Engine). Contains pool.taken (run_at engine.corb.address corb_bytes)) same corb;
-        owns_rirb = subst (λ (engine : Engine). Contains pool.taken (run_at engine.rirb.address rirb_bytes)) same rirb;
+        owns_corb = subst (λ (engine : EngineState). Contains pool.taken (run_at engine.corb.address corb_bytes)) same corb;
+        owns_rirb = subst (λ (engine : EngineState). Contains pool.taken (run_at engine.rirb.address rirb_bytes)) same rirb;
         owns_ring = c.self.invariant.owns_ring;
-        beside_corb = subst (λ (engine : Engine). IsBesideRing engine.corb.address corb_bytes writer) same
+        beside_corb = subst (λ (engine : EngineState). IsBesideRing engine.corb.address corb_bytes writer) same
             (beside_ring pool.granules pool.taken bring_up.engine.corb.address corb_bytes writer c.free-free.ensures.laid_out bring_up.engine.corb.aligned corb corb_differs c.self.invariant.owns_ring);
-        beside_rirb = subst (λ (engine : Engine). IsBesideRing engine.rirb.address rirb_bytes writer) same
+        beside_rirb = subst (λ (engine : EngineState). IsBesideRing engine.rirb.address rirb_bytes writer) same
             (beside_ring pool.granules pool.taken bring_up.engine.rirb.address rirb_bytes writer c.free-free.ensures.laid_out bring_up.engine.rirb.aligned rirb rirb_differs c.self.invariant.owns_ring);
       };
     })

@@ -45,3 +45,10 @@ returns-clause-owns_corb c =
     let same : run_at c.in-Ok.corb.address c.in-Ok.corb.bytes ≡ run =
     ap (λ (bytes : ℕ). run_at c.in-Ok.corb.address bytes) c.in-Ok.ensures.bytes ∙ ap (λ (address : ℕ). run_at address corb_bytes) (sym c.lend.ensures.address) in
     c.take-2.ensures.kept run (subst (Contains c.take.new.self.taken) same c.in-Ok.ensures.owned)
+
+-- CORB's run stays taken while RIRB's is given back
+pub give-requires-in_default-with_capacity-2 : goal.give-requires-in_default-with_capacity-2
+give-requires-in_default-with_capacity-2 c =
+    let corb : Run = run_at c.in-Ok.corb.address c.in-Ok.corb.bytes in
+    c.give-in_default-with_capacity.ensures.kept corb (c.take-2.ensures.kept corb c.in-Ok.ensures.owned)
+    (λ same. c.in-Ok-take.ensures.fresh (subst (Contains c.take.new.self.taken) same c.in-Ok.ensures.owned))
