@@ -4,5 +4,8 @@ pub mod SteadyEvents
 pub mod IdleCodecs
 pub mod Blocks
 pub mod Hearing
+pub mod Streaming
+pub mod Along
 pub mod Playing
 pub mod LineHeard
+pub mod OneSignal

@@ -1,17 +1,18 @@
 -- A line that was fetched is played.
-use Rattle.std.proofs.Common.{◌≡◌, ◌≤◌, ◌<◌, ◌+◌, ◌*◌, ◌/◌, ℕ, zero, suc, List, [], ◌∷◌, ◌++◌, length, map, take, drop, get_or, slice_index, refl, sym, ap, ◌∙◌, arith, length-append, length-drop}
+use Rattle.std.proofs.Common.{◌≡◌, ◌≤◌, ◌<◌, ◌+◌, ◌*◌, ◌/◌, ℕ, zero, suc, List, ◌++◌, length, map, take, drop, get_or, slice_index, refl, sym, ap, ◌∙◌, arith, length-append, length-drop}
 use Rattle.std.specs.List.{range_with_len}
 use Rattle.std.proofs.Math.Nat.{div-mul-le_self, mul-le-mul_right}
 use Rattle.std.proofs.lemmas.List.{length-take-le, get_or-take, get_or-drop, get_or_append_left}
 use Rattle.std.proofs.lemmas.Grind.{same_number_lists}
 use Rattle.std.proofs.lemmas.List.FromFn.{length-map-range_with_len, get_or-map-range_with_len}
 use Rattle.stream_format.specs.Layouts.{Layout}
+use Rattle.codec_sound.specs.declared.signals.Signal.{Signal}
 use Rattle.codec_sound.specs.declared.signals.Signal.TheVariants.{Pair}
 use Rattle.heard_frames.specs.declared.heard.Heard.{Heard}
 use Rattle.heard_frames.specs.declared.heard.Heard.TheVariants.{Hole}
-use Rattle.heard_frames.specs.HeardLists.{block_at, block_size, blocks, item_of}
-use Rattle.period_writer.specs.declared.course.Ran.TheVariants as ran
-use Rattle.laws_hearing.specs.Plays.{sound_at, sounds, without_holes, Plays, PlaysFront}
+use Rattle.heard_frames.specs.HeardLists.{block_at, block_size, item_of}
+use Rattle.laws_hearing.specs.Plays.{without_holes, PlaysFront}
+use Rattle.laws_hearing.specs.BySignals.{heard_by, items_by, PlaysFrontBy, PlaysBelow}
 
 -- ---- the same bytes give the same sounds
 
@@ -21,10 +22,6 @@ same_range {X} f g (suc n) a same =
     let here : f a ≡ g a = same a (omega arith) (omega arith) in
     let rest = same_range f g n (a + 1) (λ i low high. same i (omega (arith, low)) (omega (arith, high))) in
     cc
-
-map_both : {X Y Z : Type 0} (f : Y → Z) (g : X → Y) (xs : List X) → map f (map g xs) ≡ map (λ x. f (g x)) xs
-map_both {X} {Y} {Z} f g [] = refl
-map_both {X} {Y} {Z} f g (x ∷ xs) = ap (λ l. f (g x) ∷ l) (map_both f g xs)
 
 block_same : (size i : ℕ) (xs ys : List ℕ) → (i + 1) * size ≤ length xs → (i + 1) * size ≤ length ys → ((k : ℕ) → k < (i + 1) * size → slice_index xs k ≡ slice_index ys k) → block_at size xs i ≡ block_at size ys i
 block_same size i xs ys one other same = same_number_lists (block_at size xs i) (block_at size ys i) (long xs one ∙ sym (long ys other)) each where
@@ -43,22 +40,18 @@ block_same size i xs ys one other same = same_number_lists (block_at size xs i) 
       let under : k < size = omega (arith, below, size_is) in
       there xs k under ∙ same (i * size + k) (let wide = wide in omega (arith, under, wide)) ∙ sym (there ys k under)
 
-pub sounds_agree : (layout : Layout) (pair n : ℕ) (xs ys : List ℕ) → n * block_size layout ≤ length xs → n * block_size layout ≤ length ys → ((k : ℕ) → k < n * block_size layout → slice_index xs k ≡ slice_index ys k)
-    → sounds layout pair xs n ≡ sounds layout pair ys n
-sounds_agree layout pair n xs ys one other same =
-    same_range (sound_at layout pair xs) (sound_at layout pair ys) n 0 (λ i low high.
+pub items_agree : (layout : Layout) (signals : ℕ → Signal) (n : ℕ) (xs ys : List ℕ) → n * block_size layout ≤ length xs → n * block_size layout ≤ length ys → ((k : ℕ) → k < n * block_size layout → slice_index xs k ≡ slice_index ys k)
+    → items_by layout signals xs n ≡ items_by layout signals ys n
+items_agree layout signals n xs ys one other same =
+    same_range (heard_by layout signals xs) (heard_by layout signals ys) n 0 (λ i low high.
     let up : i + 1 ≤ n = omega (arith, high) in
     let few : (i + 1) * block_size layout ≤ n * block_size layout = mul-le-mul_right (block_size layout) up in
-    ap (item_of layout (Pair pair)) (block_same (block_size layout) i xs ys (omega (arith, few, one)) (omega (arith, few, other)) (λ k below. same k (omega (arith, below, few)))))
-
--- blocks as sounds
-pub sounds_of : (layout : Layout) (pair : ℕ) (bytes : List ℕ) → map (item_of layout (Pair pair)) (blocks (block_size layout) bytes) ≡ sounds layout pair bytes (length bytes / block_size layout)
-sounds_of layout pair bytes = map_both (item_of layout (Pair pair)) (block_at (block_size layout) bytes) (range_with_len 0 (length bytes / block_size layout))
+    ap (item_of layout (signals i)) (block_same (block_size layout) i xs ys (omega (arith, few, one)) (omega (arith, few, other)) (λ k below. same k (omega (arith, below, few)))))
 
 -- ---- what was sent, against the line
 
-module _ (layout : Layout) (pair : ℕ) (entered : List ℕ) (left : ℕ) (behind : left ≤ length entered) (list : List Heard)
-    (heard : without_holes list ≡ sounds layout pair (take left entered) (left / block_size layout)) where
+module _ (layout : Layout) (signals : ℕ → Signal) (entered : List ℕ) (left : ℕ) (behind : left ≤ length entered) (list : List Heard)
+    (heard : without_holes list ≡ items_by layout signals (take left entered) (left / block_size layout)) where
   abbrev n : ℕ
   n = left / block_size layout
 
@@ -69,28 +62,28 @@ module _ (layout : Layout) (pair : ℕ) (entered : List ℕ) (left : ℕ) (behin
   sent_long = length-take-le left entered behind
 
   -- these bytes
-  pub plays : (bytes : List ℕ) → left ≤ length bytes → ((at : ℕ) → at < left → slice_index entered at ≡ slice_index bytes at) → PlaysFront layout pair bytes list
+  pub plays : (bytes : List ℕ) → left ≤ length bytes → ((at : ℕ) → at < left → slice_index entered at ≡ slice_index bytes at) → PlaysFrontBy layout signals bytes list
   plays bytes within same = record {
     count = n;
     within = let few = whole in omega (arith, few, within);
     are = (
         heard
-        ∙ sounds_agree layout pair n (take left entered) bytes (let few = whole in let long = sent_long in omega (arith, few, long)) (let few = whole in omega (arith, few, within))
+        ∙ items_agree layout signals n (take left entered) bytes (let few = whole in let long = sent_long in omega (arith, few, long)) (let few = whole in omega (arith, few, within))
         (λ k below. let few = whole in get_or-take left entered k 0 (omega (arith, below, few)) ∙ same k (omega (arith, below, few))));
   }
 
   -- below a position
-  pub plays_below : (line : List ℕ) (reach since to limit : ℕ) → reach ≤ length line → ((at : ℕ) → at < left → at < reach → slice_index entered at ≡ slice_index line at) → Plays (ran.Late since to limit) layout pair line reach list
-  plays_below line reach since to limit long same place within below =
-      let number = ap length heard ∙ length-map-range_with_len (sound_at layout pair (take left entered)) 0 n in
+  pub plays_below : (line : List ℕ) (reach : ℕ) → reach ≤ length line → ((at : ℕ) → at < left → at < reach → slice_index entered at ≡ slice_index line at) → PlaysBelow layout signals line reach list
+  plays_below line reach long same place within below =
+      let number = ap length heard ∙ length-map-range_with_len (heard_by layout signals (take left entered)) 0 n in
       let inside : place < n = omega (arith, within, number) in
       let up : place + 1 ≤ n = omega (arith, inside) in
       let few : (place + 1) * block_size layout ≤ n * block_size layout = mul-le-mul_right (block_size layout) up in
       let most = whole in
       let sent = sent_long in
       ap (λ l. get_or l place Hole) heard
-      ∙ get_or-map-range_with_len (sound_at layout pair (take left entered)) 0 n place place Hole inside (omega arith)
-      ∙ ap (item_of layout (Pair pair)) (block_same (block_size layout) place (take left entered) line (omega (arith, few, most, sent)) (omega (arith, below, long))
+      ∙ get_or-map-range_with_len (heard_by layout signals (take left entered)) 0 n place place Hole inside (omega arith)
+      ∙ ap (item_of layout (signals place)) (block_same (block_size layout) place (take left entered) line (omega (arith, few, most, sent)) (omega (arith, below, long))
       (λ k under. get_or-take left entered k 0 (omega (arith, under, few, most)) ∙ same k (omega (arith, under, few, most)) (omega (arith, under, below))))
 
 -- ---- a longer line
@@ -99,11 +92,23 @@ slice_front : (xs ys : List ℕ) (k : ℕ) → k < length xs → slice_index xs 
 slice_front xs ys k below = sym (get_or_append_left xs ys 0 k below)
 
 -- what plays of a line plays of one that begins with it
-pub plays_longer : (layout : Layout) (pair : ℕ) (line more : List ℕ) (list : List Heard) → PlaysFront layout pair line list → PlaysFront layout pair (line ++ more) list
-plays_longer layout pair line more list plays =
+pub plays_longer_by : (layout : Layout) (signals : ℕ → Signal) (line more : List ℕ) (list : List Heard) → PlaysFrontBy layout signals line list → PlaysFrontBy layout signals (line ++ more) list
+plays_longer_by layout signals line more list plays =
     let few = plays.within in
     let long = length-append line more in record {
       count = plays.count;
       within = omega (arith, few, long);
-      are = plays.are ∙ sounds_agree layout pair plays.count line (line ++ more) few (omega (arith, few, long)) (λ k below. slice_front line more k (omega (arith, below, few)));
+      are = plays.are ∙ items_agree layout signals plays.count line (line ++ more) few (omega (arith, few, long)) (λ k below. slice_front line more k (omega (arith, below, few)));
     }
+
+-- ---- one pair
+
+pub front_of_pair : (layout : Layout) (pair : ℕ) (bytes : List ℕ) (list : List Heard) → PlaysFrontBy layout (λ place. Pair pair) bytes list → PlaysFront layout pair bytes list
+front_of_pair layout pair bytes list plays = record { count = plays.count; within = plays.within; are = plays.are }
+
+pair_of_front : (layout : Layout) (pair : ℕ) (bytes : List ℕ) (list : List Heard) → PlaysFront layout pair bytes list → PlaysFrontBy layout (λ place. Pair pair) bytes list
+pair_of_front layout pair bytes list plays = record { count = plays.count; within = plays.within; are = plays.are }
+
+pub plays_longer : (layout : Layout) (pair : ℕ) (line more : List ℕ) (list : List Heard) → PlaysFront layout pair line list → PlaysFront layout pair (line ++ more) list
+plays_longer layout pair line more list plays =
+    front_of_pair layout pair (line ++ more) list (plays_longer_by layout (λ place. Pair pair) line more list (pair_of_front layout pair line list plays))

@@ -13,7 +13,7 @@ use Rattle.period_writer.specs.Standing.{Ring}
 use Rattle.period_writer.specs.Owning.{IsPlaying}
 use Rattle.laws_hearing.specs.Steady.{IsSteadyFrame, Steady}
 
-all_none : (P : CarriedFrame → Type 0) (frames : List CarriedFrame) → frames ≡ [] → All P frames
+pub all_none : (P : CarriedFrame → Type 0) (frames : List CarriedFrame) → frames ≡ [] → All P frames
 all_none P frames none = subst (All P) (sym none) (λ k d lt. absurd (omega (arith, lt)))
 
 pub steady_at_first : (ring : Ring) (pcm : List ℕ) (tally : Tally) (world : World) → IsPlaying ring pcm tally world → world.registers.global.corb_read_pointer ≡ world.registers.global.corb_write_pointer

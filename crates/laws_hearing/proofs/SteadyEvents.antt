@@ -7,7 +7,7 @@ use Rattle.codec_graph.specs.CodecStates.{CodecState}
 use Rattle.hda_registers.specs.declared.shapes.Width.{Width}
 use Rattle.hda_registers.specs.declared.shapes.Width.TheVariants.{One}
 use Rattle.hda_registers.specs.Fields.{Fields, Descriptor, is_out_of_reset, is_running}
-use Rattle.hda_registers.specs.Access.{written, placed, stream_written, rose}
+use Rattle.hda_registers.specs.Access.{written, rose}
 use Rattle.hda_registers.specs.Laws.{IsBesideStreams}
 use Rattle.hda_registers.proofs.Callers.{leaves-streams, changes-input, status-output, ignored, keeps-reset, keeps-left, written_pointers}
 use Rattle.stream_format.specs.Layouts.{Layout, layout_of}
@@ -21,10 +21,10 @@ use Rattle.laws_hearing.proofs.Steadying.{steady_kept}
 use Rattle.period_writer.proofs.Callers.{write-ready}
 
 -- the stream's tag and its format word are the same, and RUN does not rise
-record KeepsStream (old new : Fields) : Type 0 where
-  tag : new.output.tag ≡ old.output.tag
-  format : new.output.format ≡ old.output.format
-  still : rose old.output new.output ≡ false
+pub record KeepsStream (old new : Fields) : Type 0 where
+  pub tag : new.output.tag ≡ old.output.tag
+  pub format : new.output.format ≡ old.output.format
+  pub still : rose old.output new.output ≡ false
 
 not_then : (ran : Bool) → (not ran && false) ≡ false
 not_then true = refl
@@ -44,7 +44,7 @@ stop_keeps : (f : Fields) (out : Bool) → is_out_of_reset f.global ≡ out → 
 stop_keeps f true is = subst (KeepsStream f) (sym (write-ready f is)) (record { tag = refl; format = refl; still = not_then (is_running f.output) })
 stop_keeps f false is = same_output f (written f 0xA0 One 0) (ap (λ (g : Fields). g.output) (ignored f 0xA0 One 0 is (λ e. cc)))
 
-written_keeps : (f : Fields) (at value : ℕ) (width : Width) → at / 4 ≢ 2 → IsBesideStreams at ⊎ IsStatusOrStop at width value → KeepsStream f (written f at width value)
+pub written_keeps : (f : Fields) (at value : ℕ) (width : Width) → at / 4 ≢ 2 → IsBesideStreams at ⊎ IsStatusOrStop at width value → KeepsStream f (written f at width value)
 written_keeps f at value width other (inl beside) = same_output f (written f at width value) (leaves-streams f at width value other beside).output
 written_keeps f at value width other (inr (one, inl input)) =
     subst (λ (at : ℕ). KeepsStream f (written f at width value)) (sym input) (same_output f (written f 0x83 width value) (changes-input f 0x83 width value (omega arith) (omega arith)).output)

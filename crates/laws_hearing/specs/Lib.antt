@@ -1,2 +1,4 @@
 pub mod Plays
 pub mod Steady
+pub mod BySignals
+pub mod Streams

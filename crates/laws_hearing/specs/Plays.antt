@@ -1,7 +1,7 @@
 -- What it means that a pin's list is a line of bytes that was played. This project's own, over the blocks and samples
 -- of High Definition Audio 1.0a, 4.5.1.
-use Rattle.std.specs.Prelude.{◌≡◌, ◌≤◌, ◌<◌, ℕ, ◌+◌, ◌*◌, Bool, true, false, not, List, ◌++◌, length, map, filter}
-use Rattle.std.specs.Prelude.{replicate, get_or}
+use Rattle.std.specs.Prelude.{◌≡◌, ◌≤◌, ◌<◌, ℕ, ◌+◌, ◌*◌, Bool, true, false, List, ◌++◌, length, map, replicate}
+use Rattle.std.specs.Prelude.{get_or}
 use Rattle.std.specs.List.{range_with_len}
 use Rattle.stream_format.specs.Layouts.{Layout}
 use Rattle.codec_sound.specs.declared.signals.Signal.TheVariants.{Pair}
@@ -10,6 +10,7 @@ use Rattle.heard_frames.specs.declared.heard.Heard.TheVariants.{Sound, Quiet, Ho
 use Rattle.heard_frames.specs.HeardLists.{block_at, block_size, item_of}
 use Rattle.period_writer.specs.declared.course.Ran.{Ran}
 use Rattle.period_writer.specs.declared.course.Ran.TheVariants as ran
+pub use Rattle.heard_frames.specs.Marks.{is_hole, without_holes}
 
 -- the two samples of a pair in the block of some bytes at this place, counted from 0
 abbrev pub sound_at : Layout → (pair : ℕ) → (bytes : List ℕ) → (place : ℕ) → Heard
@@ -18,15 +19,6 @@ sound_at layout pair bytes place = item_of layout (Pair pair) (block_at (block_s
 -- those of the first so many blocks
 abbrev pub sounds : Layout → (pair : ℕ) → (bytes : List ℕ) → (count : ℕ) → List Heard
 sounds layout pair bytes count = map (sound_at layout pair bytes) (range_with_len 0 count)
-
-abbrev pub is_hole : Heard → Bool
-is_hole Hole = true
-is_hole Quiet = false
-is_hole Altered = false
-is_hole (Sound left right) = false
-
-abbrev pub without_holes : List Heard → List Heard
-without_holes list = filter (λ item. not (is_hole item)) list
 
 -- but for its holes the list is the pair's samples of some whole blocks of these bytes, from the first one on, each
 -- once and in order

@@ -54,3 +54,19 @@ pub use Rattle.laws_settings.proofs.Addressed.{commands_to-graphs}
 pub use Rattle.laws_settings.proofs.Addressed.{words_to-naming}
 -- after the walks over all graphs and commands of each, a codec has the settings that its own make
 pub use Rattle.laws_settings.proofs.WholeHistories.{takes_its_own}
+-- what link frames found of codecs is remembered from the world itself on
+pub use Rattle.laws_settings.proofs.FrameRemembering.{remembers_its_frames}
+-- over steps of the device
+pub use Rattle.laws_settings.proofs.FrameRemembering.{steps_remember_frames}
+-- and over all events
+pub use Rattle.laws_settings.proofs.FrameRemembering.{events_remember_frames}
+-- of commands that were all taken before a link frame all were taken before it
+pub use Rattle.laws_settings.proofs.FrameRemembering.{all_before}
+-- a pin's control after a word, and after some words
+pub use Rattle.laws_settings.proofs.LastControl.{reading_sets, words_set, last_stands}
+-- what a number leaves that is put elsewhere, and what it makes of its own control
+pub use Rattle.laws_settings.proofs.LastControl.{other_key, put_elsewhere, put_here}
+-- what is found at an address among codecs came of what was found there
+pub use Rattle.laws_settings.proofs.Codecs.{AreGraphs, AreSettings, found_taken}
+-- what a codec makes of a reading
+pub use Rattle.laws_settings.proofs.Words.{made_of}

@@ -1,6 +1,8 @@
 pub mod Words
 pub mod Codecs
 pub mod Remembering
+pub mod FrameRemembering
+pub mod LastControl
 pub mod Readings
 pub mod Asking
 pub mod Addressed

@@ -21,12 +21,12 @@ use Rattle.laws_settings.proofs.Codecs.{part-with_codec, found_taken, all_handed
 
 -- ---- the last of some commands
 
-get_front : {X : Type 0} (xs ys : List X) (place : ℕ) → place < length xs → slice_get (xs ++ ys) place ≡ slice_get xs place
+pub get_front : {X : Type 0} (xs ys : List X) (place : ℕ) → place < length xs → slice_get (xs ++ ys) place ≡ slice_get xs place
 get_front {X} [] ys place there = absurd (omega (arith, there))
 get_front {X} (x ∷ xs) ys zero there = refl
 get_front {X} (x ∷ xs) ys (suc place) there = get_front xs ys place (omega (arith, there))
 
-get_seam : {X : Type 0} (xs : List X) (x : X) → slice_get (xs ++ x ∷ []) (length xs) ≡ Some x
+pub get_seam : {X : Type 0} (xs : List X) (x : X) → slice_get (xs ++ x ∷ []) (length xs) ≡ Some x
 get_seam {X} [] x = refl
 get_seam {X} (y ∷ xs) x = get_seam xs x
 
@@ -98,7 +98,7 @@ module _ (start : List CodecState) (from : ℕ) where
     taken = is.taken;
   }
 
-  keeps_remembering : Kept (Remembers start from)
+  pub keeps_remembering : Kept (Remembers start from)
   keeps_remembering = kept_codecs (RemembersBy start from) (record {
     hands = λ world holds can free. (
         let word = next_command world.registers world.memory in
@@ -118,7 +118,7 @@ module _ (start : List CodecState) (from : ℕ) where
       subst (RemembersBy start from (after_write at width value world).codecs) (sym leaves.commands)
       (record { within = is.within; graphs = leaves.graphs ∙ is.graphs; settings = leaves.settings ∙ is.settings; taken = is.taken })
 
-  event_remembers : (event : Event) (world : World) → Remembers start from world → Remembers start from (happens world event)
+  pub event_remembers : (event : Event) (world : World) → Remembers start from world → Remembers start from (happens world event)
   event_remembers (Stepped step) world is = steps_remember (step ∷ []) world is
   event_remembers Begin world is = is
   event_remembers End world is = is

@@ -1,3 +1,5 @@
 pub mod Histories
 pub mod Readings
 pub mod Addressed
+pub mod Frames
+pub mod PinControls

@@ -1,10 +1,11 @@
 //! Laws of what codecs took, each the contract of a function that does nothing.
-ghost use Rattle.std.specs.Prelude.{◌≡◌, ◌≤◌, ℕ, List, [], ◌∷◌, ◌++◌, Some, All, drop, take, length, map, slice_get};
+ghost use Rattle.std.specs.Prelude.{◌≡◌, ◌≤◌, true, ℕ, List, [], ◌∷◌, ◌++◌, Some, All, drop, take, length, map, slice_get};
 ghost use Rattle.std.specs.List.{flat_map};
 ghost use Rattle.verb_codes.specs.declared.verbs.Command.{Command};
 ghost use Rattle.verb_codes.specs.Verbs.{IsInRange, word_of, reading_of};
 ghost use Rattle.codec_graph.specs.declared.raw.RawCodec.{RawCodec};
-ghost use Rattle.codec_graph.specs.Settings.{Entries, IsSettingsOf};
+ghost use Rattle.codec_graph.specs.declared.controls.Control.TheVariants.{Pin};
+ghost use Rattle.codec_graph.specs.Settings.{Entries, IsSettingsOf, has_control, setting_of};
 ghost use Rattle.codec_graph.specs.Cycles.{IsWellFormed};
 ghost use Rattle.codec_graph.specs.CodecStates.{CodecState, answer_to};
 ghost use Rattle.codec_walk.specs.Commands.{walk_commands};
@@ -22,6 +23,8 @@ ghost use Rattle.laws_settings.specs.Histories.{Remembers, FoundTaken, settings_
 ghost use Rattle.laws_settings.specs.Addressed.{words_naming, commands_to, graphs_at, GoToTheirCodecs, CanBeSent};
 ghost use Rattle.laws_settings.specs.Addressed.{IsSetBy};
 ghost use Rattle.laws_settings.specs.Readings.{IsReading, KeepsDefaults, then_set_up};
+ghost use Rattle.laws_settings.specs.Frames.{RemembersFrames};
+ghost use Rattle.laws_settings.specs.PinControls.{control_with, last_control};
 
 /// A world remembers its own codecs, and goes on remembering over steps of the device and over all other events: each
 /// codec has its graph still and the settings that came of the words that it took since, and each command since was
@@ -131,4 +134,27 @@ pub fn an_answer_is_a_reply()
         → Remembers start from world → All KeepsDefaults start → slice_get (drop from world.commands) place ≡ Some one
         → All IsReading (words_of (take place (drop from world.commands)))
         → reading_of one.word ≡ Some command → CanAnswer one.codec.graph command (answer_to one.codec one.word) }
+{}
+
+/// A world that remembers codecs goes on remembering what link frames found of them, over steps of the device and over
+/// all other events: each later link frame found them as the commands made them that were taken before it. It begins
+/// with the world's own codecs.
+pub fn frames_remember()
+    ensures begins { (world : World)
+        → RemembersFrames world.codecs (length world.commands) (length world.carried) world }
+    ensures steps { (start : List CodecState) (from frames : ℕ) (steps : List Step) (world : World)
+        → Remembers start from world → RemembersFrames start from frames world
+        → RemembersFrames start from frames (after_steps steps world) }
+    ensures events { (start : List CodecState) (from frames : ℕ) (events : List Event) (world : World)
+        → Remembers start from world → RemembersFrames start from frames world
+        → RemembersFrames start from frames (after events world) }
+{}
+
+/// After some words the control of a pin is what the last of them put that set it, with the bits that a pin keeps, or
+/// as it was where none did.
+pub fn the_last_pin_control_stands()
+    ensures { (graph : RawCodec) (settings : Entries) (pin : ℕ) (words : List ℕ) → IsWellFormed graph
+        → IsSettingsOf graph settings → has_control graph pin Pin ≡ true
+        → setting_of (settings_by graph settings words) pin Pin
+        ≡ control_with (last_control pin words) (setting_of settings pin Pin) }
 {}

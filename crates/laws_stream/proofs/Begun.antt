@@ -1,7 +1,7 @@
 -- A first run sets the stream going, and these codecs hear it.
 use Rattle.std.proofs.Common.{◌≡◌, inl, inr, ℕ, Bool, List, [], ◌∷◌, ◌++◌, length, drop, refl, sym, ap, subst, ◌∙◌, append_assoc, arith}
 use Rattle.std.specs.Prelude.{All}
-use Rattle.std.proofs.lemmas.List.Elements.{All-cons, All-head, All-nil, All-tail}
+use Rattle.std.proofs.lemmas.List.Elements.{All-cons, All-nil}
 use Rattle.codec_graph.specs.CodecStates.{CodecState}
 use Rattle.hda_registers.specs.declared.shapes.Width.TheVariants.{One, Four}
 use Rattle.hda_registers.specs.declared.places.TheConstants.{WALCLK}
@@ -10,7 +10,7 @@ use Rattle.stream_format.specs.Words.{format_word}
 use Rattle.world_streams.specs.Streams.{begun}
 use Rattle.heard_frames.specs.HeardLists.{block_size}
 use Rattle.hda_world.specs.Worlds.{World, CarriedFrame}
-use Rattle.hda_world.specs.Events.{Event, Read, happens, after}
+use Rattle.hda_world.specs.Events.{Event, Read, after}
 use Rattle.hda_world.specs.Streaming.{HasSent}
 use Rattle.hda_world.specs.Tellings.{Telling, world_of, Went, Makes}
 use Rattle.hda_world.specs.Moments.{AreWoven}

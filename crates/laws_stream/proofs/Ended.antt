@@ -1,19 +1,12 @@
 -- The last run stops the stream, and pins heard the line.
-use Rattle.std.proofs.Common.{◌≡◌, inl, inr, ◌≤◌, ◌+◌, ◌-◌, ◌*◌, ◌/◌, ◌==◌, ◌&&◌, not, ℕ, min, Bool, true, false, if◌then◌else◌, List, [], ◌∷◌, ◌++◌, append_assoc, length, map, drop, Some, refl, sym, ap, subst, ◌∙◌, arith, rules}
+use Rattle.std.proofs.Common.{◌≡◌, inl, inr, ◌≤◌, ◌+◌, ◌*◌, ◌/◌, ◌&&◌, not, ℕ, Bool, true, false, List, ◌++◌, length, drop, Some, refl, sym, ap, subst, ◌∙◌, arith}
 use Rattle.std.proofs.lemmas.Bool.{false≢true}
-use Rattle.std.specs.Prelude.{All, nat_lt}
-use Rattle.std.specs.List.{range_with_len}
-use Rattle.std.proofs.Math.Nat.{mod-eq_of_lt, div-mul-le_self}
+use Rattle.std.specs.Prelude.{All}
+use Rattle.std.proofs.Math.Nat.{div-mul-le_self}
 use Rattle.std.proofs.lemmas.Nat.{le-div}
 use Rattle.std.proofs.lemmas.List.Elements.{All-from_recursion}
-use Rattle.std.proofs.lemmas.Bool.{or_parts}
 use Rattle.codec_graph.specs.declared.pin_kind.PinKind.{PinKind}
 use Rattle.codec_graph.specs.CodecStates.{CodecState}
-use Rattle.hda_registers.specs.declared.shapes.Width.TheVariants.{One, Four}
-use Rattle.hda_registers.specs.declared.places.TheConstants.{WALCLK}
-use Rattle.hda_registers.specs.Access.{value_at}
-use Rattle.hda_registers.specs.Fields.{Fields}
-use Rattle.hda_registers.proofs.Callers.{read-wall_clock}
 use Rattle.stream_format.specs.Layouts.{Layout, layout, layout_of}
 use Rattle.stream_format.specs.Words.{format_word}
 use Rattle.stream_format.proofs.Callers.{read_back}
@@ -22,21 +15,17 @@ use Rattle.codec_sound.specs.declared.signals.Signal.TheVariants.{Pair, Silence}
 use Rattle.heard_frames.specs.declared.heard.Heard.{Heard}
 use Rattle.heard_frames.specs.HeardLists.{block_size, signal_with_as, heard_as}
 use Rattle.hda_world.specs.Worlds.{World, CarriedFrame, codec_at}
-use Rattle.hda_world.specs.Events.{Event, Read, Write, happens, AreHonest, IsNoStep}
+use Rattle.hda_world.specs.Events.{Event, IsNoStep}
 use Rattle.hda_world.specs.Streaming.{HasSent}
 use Rattle.hda_world.specs.Tellings.{Telling, world_of, Went, Makes}
 use Rattle.hda_world.proofs.Callers.{world_of-went, went_both, Weaving, woven, events_front, events_back}
 use Rattle.command_engine.specs.Polling.{poll_accesses}
-use Rattle.period_writer.specs.declared.course.Course.{Course}
 use Rattle.period_writer.specs.declared.course.Ran.{Ran}
 use Rattle.period_writer.specs.declared.course.Ran.TheVariants as ran
-use Rattle.period_writer.specs.declared.registers.TheConstants.{CONTROL}
-use Rattle.period_writer.specs.Rings.{period_bytes, whole_blocks}
 use Rattle.period_writer.specs.Courses.{IsCourse}
-use Rattle.period_writer.specs.Runs.{RunFacts, Tally, Measures, measures, run_cut, run_reach, run_room, run_start, run_sound, run_sure, takes_back, is_late, is_late_since, is_slow, tally_if, tally_after}
-use Rattle.period_writer.specs.Lines.{IsLine, line_of, sound_and_silence}
-use Rattle.period_writer.specs.Places.{line_writes, piece_write, touched}
-use Rattle.period_writer.specs.Playing.{run_bytes, writes_by, turn_accesses, finish_accesses}
+use Rattle.period_writer.specs.Runs.{RunFacts, Tally, Measures, measures, run_sure, takes_back, is_late, tally_if, tally_after}
+use Rattle.period_writer.specs.Lines.{IsLine, line_of}
+use Rattle.period_writer.specs.Playing.{run_bytes, turn_accesses, finish_accesses}
 use Rattle.period_writer.specs.Standing.{Ring, size_of, limit_in}
 use Rattle.period_writer.specs.Owning.{IsPlaying}
 use Rattle.period_writer.specs.Beside.{LeavesStopped}
@@ -53,10 +42,11 @@ use Rattle.audio_driver.proofs.Callers.{open_playing}
 use Rattle.laws_stream.specs.Lives.{Along, IsStopped, IsGoing, HasStopped, Lives}
 use Rattle.laws_stream.specs.Sounding.{StreamIs, IsHeardBy, StreamSounds}
 use Rattle.laws_stream.specs.Ending.{HearTheLine}
-use Rattle.laws_stream.proofs.Rows.{woven_all, woven_alone, carried_alone, went_same}
+use Rattle.laws_stream.proofs.Rows.{woven_all, carried_alone, went_same}
 use Rattle.laws_stream.proofs.Lives.{Along-end, Along-front, stays_stopped}
 use Rattle.laws_stream.proofs.Beside.{Laws, heard_row, drained_stopped, stopped_along}
 use Rattle.laws_stream.proofs.Runs.{finish_steady, finish_is, stopped_by}
+use Rattle.laws_stream.proofs.InTime.{line_is, few}
 use Rattle.laws_stream.proofs.Calls.{row_sounds, poll_beside}
 
 -- ---- the laws of what is heard
@@ -99,15 +89,15 @@ over_stopped (ran.Late from to limit) ring pcm tally world over stream = stream
 
 -- ---- what pins heard
 
-abbrev is_drained : Ran → Bool
+abbrev pub is_drained : Ran → Bool
 is_drained ran.Playing = false
 is_drained ran.Drained = true
 is_drained (ran.Late from to limit) = false
 
-never_drained : (was : Ran) → is_drained was ≡ false → was ≡ ran.Drained → ⊥
+pub never_drained : (was : Ran) → is_drained was ≡ false → was ≡ ran.Drained → ⊥
 never_drained was not same = false≢true (sym not ∙ ap is_drained same)
 
-more_blocks : (some many block : ℕ) → 1 ≤ block → some ≤ many → some / block ≤ many / block
+pub more_blocks : (some many block : ℕ) → 1 ≤ block → some ≤ many → some / block ≤ many / block
 more_blocks some many block whole more = let fewer = div-mul-le_self some block in le-div (some / block) many block whole (omega (arith, fewer, more))
 
 -- where the line has drained the link stood at what was sent at most
@@ -143,51 +133,11 @@ module _ (laws : HearLaws) (codecs : List CodecState) (ring : Ring) (pcm : List 
 
 -- ---- the last run
 
-ends_stopped : (answer : Ran) (ring : Ring) (pcm : List ℕ) (tally tally' : Tally) (facts : RunFacts) (world : World) → tally' ≡ tally_after (measures ring.geometry) tally facts → answer ≡ tally'.course.ran
+pub ends_stopped : (answer : Ran) (ring : Ring) (pcm : List ℕ) (tally tally' : Tally) (facts : RunFacts) (world : World) → tally' ≡ tally_after (measures ring.geometry) tally facts → answer ≡ tally'.course.ran
     → EndsLast answer ring pcm tally' world → WasStopped ring pcm tally' world
 ends_stopped ran.Playing ring pcm tally tally' facts world recorded is ends = ends
 ends_stopped ran.Drained ring pcm tally tally' facts world recorded is ends = drained_stopped ring pcm tally' world ends
 ends_stopped (ran.Late from to limit) ring pcm tally tally' facts world recorded is ends = ends
-
--- the clock that it reads last, where the device makes no step
-row_read : (bytes : ℕ) (periods : List ℕ) (from to : ℕ) (written : List ℕ) (xs : List ℕ) (rest : List Event) (world : World) {A : Type 0}
-    → ((later : World) → later.registers ≡ world.registers → AreHonest rest later → A) → AreHonest (map (piece_write bytes periods from to written) xs ++ rest) world → A
-row_read bytes periods from to written [] rest world goes honest = goes world refl honest
-row_read bytes periods from to written (x ∷ xs) rest world goes honest = row_read bytes periods from to written xs rest (happens world (piece_write bytes periods from to written x)) goes honest.1
-
-clock_read : (bytes : ℕ) (periods : List ℕ) (start sound reach reach' : ℕ) (pcm : List ℕ) (clock : ℕ) (later : List Event) (world : World)
-    → AreHonest (writes_by bytes periods start sound reach reach' pcm ++ (Read WALCLK Four clock ∷ later)) world → clock ≡ value_at world.registers WALCLK Four
-clock_read bytes periods start sound reach reach' pcm clock later world honest =
-    row_read bytes periods start (min reach (start + sound)) _ (range_with_len (start / bytes) (touched bytes start (min reach (start + sound)))) (line_writes bytes periods reach reach' (sound_and_silence (sound - (min reach (start + sound) - start)) (reach' - reach) (drop (min reach (start + sound) - start) pcm)) ++ (Read WALCLK Four clock ∷ later)) world
-    (λ middle same honest. row_read bytes periods reach reach' _ (range_with_len (reach / bytes) (touched bytes reach reach')) (Read WALCLK Four clock ∷ later) middle (λ last same' honest. honest.0 ∙ ap (λ (fields : Fields). value_at fields WALCLK Four) (same' ∙ same)) honest)
-    (subst (λ (events : List Event). AreHonest events world) (append_assoc (line_writes bytes periods start (min reach (start + sound)) (sound_and_silence (min reach (start + sound) - start) (min reach (start + sound) - start) pcm)) (line_writes bytes periods reach reach' (sound_and_silence (sound - (min reach (start + sound) - start)) (reach' - reach) (drop (min reach (start + sound) - start) pcm))) (Read WALCLK Four clock ∷ later)) honest)
-
--- with a budget of 0 nothing is taken back
-no_budget : (m : Measures) (course : Course) (facts : RunFacts) → facts.budget ≡ 0 → takes_back m course facts ≡ false
-no_budget m course facts none = by (nat_lt (run_cut m course facts) course.reach) where
-  least : (block budget n : ℕ) → budget ≡ 0 → whole_blocks block (min budget n) ≡ 0
-  least block budget n e = grind (arith, e)
-
-  silent : (run_sound m course facts == 0) ≡ true
-  silent = ap (λ (n : ℕ). n == 0) (least m.block facts.budget (min (run_room m course facts) facts.left) none)
-
-  by : (below : Bool) → (below && not (run_sound m course facts == 0)) ≡ false
-  by true = ap not silent
-  by false = refl
-
-never_late : (since_first : Bool) (course_from from to limit slack : ℕ) → ran.Playing ≡ (if since_first then ran.Late course_from to limit else ran.Late from to slack) → ⊥
-never_late true course_from from to limit slack is = cc
-never_late false course_from from to limit slack is = cc
-
-playing_late : (late : Bool) (m : Measures) (tally : Tally) (facts : RunFacts) → is_late m tally.course facts ≡ late → ran.Playing ≡ (tally_if late m tally facts).course.ran → is_late m tally.course facts ≡ false
-playing_late true m tally facts is plays = absurd (never_late (is_late_since m tally.course facts) tally.course.from facts.from facts.to m.limit m.slack plays)
-playing_late false m tally facts is plays = is
-
-not_more : (a b : ℕ) → nat_lt a b ≡ false → b ≤ a
-not_more a b e = search (rules, e)
-
-few_frames : (frames clock from limit : ℕ) → clock ≡ 500 * frames → clock - from ≤ 500 * limit → 500 * frames ≤ from + 500 * limit
-few_frames frames clock from limit is few = omega (arith, is, few)
 
 module _ (laws : HearLaws) (codecs : List CodecState) (ring : Ring) (pcm : List ℕ) (tally tally' : Tally) (runs : ℕ) (course : IsCourse (size_of ring) runs tally.course) (begins ends : Telling)
     (playing : IsPlaying ring pcm tally (world_of begins)) (hears : IsHeardBy codecs ring (world_of begins)) (small : HasNotWrapped (world_of begins))
@@ -195,42 +145,15 @@ module _ (laws : HearLaws) (codecs : List CodecState) (ring : Ring) (pcm : List 
   abbrev m : Measures
   m = measures ring.geometry
 
-  in_time : is_late m tally.course run.facts ≡ false
-  in_time = playing_late (is_late m tally.course run.facts) m tally run.facts refl (plays ∙ ap (λ (tally : Tally). tally.course.ran) run.recorded)
-
-  back_none : takes_back m tally.course run.facts ≡ false
-  back_none = no_budget m tally.course run.facts run.budget_is
-
-  line_is : line_of tally' pcm ≡ line_of tally pcm ++ run_bytes m tally.course run.facts (drop tally.course.used pcm)
-  line_is =
-      ap (λ (tally : Tally). line_of tally pcm) (run.recorded ∙ ap (λ (late : Bool). tally_if late m tally run.facts) in_time)
-      ∙ laws.grows m runs tally run.facts pcm course playing.written.line back_none
-
   -- where the device makes no step
   module _ (events : List Event) (went : Went begins ends events) (alone : All IsNoStep events) where
-    clock_is : run.facts.to ≡ 500 * (world_of begins).frames
-    clock_is =
-        let weaving = woven run.made in
-        let same : weaving.events ≡ events = went_same begins ends weaving.events events weaving.went went in
-        let made : weaving.events ≡ finish_accesses ring.geometry ring.periods tally.course run.facts (drop tally.course.used pcm) =
-        woven_alone (finish_accesses ring.geometry ring.periods tally.course run.facts (drop tally.course.used pcm)) weaving.events weaving.woven (subst (All IsNoStep) (sym same) alone) in
-        let honest = subst (λ (events : List Event). AreHonest events (world_of begins)) made weaving.went.honest in
-        clock_read (period_bytes ring.geometry.period) ring.periods (run_start m tally.course run.facts) (run_sound m tally.course run.facts) tally.course.reach (run_reach m tally.course run.facts) (drop tally.course.used pcm) run.facts.to (Write CONTROL One 0 ∷ []) (world_of begins) honest.1.1
-        ∙ read-wall_clock (world_of begins).registers ∙ playing.stands.clock_is ∙ mod-eq_of_lt small
-
-    few : 500 * (world_of begins).frames ≤ tally.course.from + 500 * limit_in ring
-    few =
-        let late : nat_lt (500 * m.limit) (run.facts.to - tally.course.from) ≡ false =
-        (let first = (or_parts (is_late_since m tally.course run.facts) (is_slow m tally.course run.facts) in_time).0 in sym (ap (λ (started : Bool). started && nat_lt (500 * m.limit) (run.facts.to - tally.course.from)) playing.started) ∙ first) in
-        few_frames (world_of begins).frames run.facts.to tally.course.from (limit_in ring) clock_is (not_more (500 * limit_in ring) (run.facts.to - tally.course.from) late)
-
     playing_heard : (kind : PinKind) (address pin pair : ℕ) → signal_with_as kind (codec_at address codecs) 1 (format_word ring.geometry.format) (Some (layout ring.geometry.format)) pin ≡ Pair pair
         → Plays tally'.course.ran (layout ring.geometry.format) pair (line_of tally' pcm) tally'.course.sure (heard_as kind address pin (world_of begins).carried)
     playing_heard kind address pin pair is =
         subst (λ (was : Ran). Plays was (layout ring.geometry.format) pair (line_of tally' pcm) tally'.course.sure (heard_as kind address pin (world_of begins).carried)) plays
-        (subst (λ (line : List ℕ). PlaysFront (layout ring.geometry.format) pair line (heard_as kind address pin (world_of begins).carried)) (sym line_is)
+        (subst (λ (line : List ℕ). PlaysFront (layout ring.geometry.format) pair line (heard_as kind address pin (world_of begins).carried)) (sym (line_is laws.grows ring pcm tally tally' runs course begins ends playing small run plays))
         (laws.longer (layout ring.geometry.format) pair (line_of tally pcm) (run_bytes m tally.course run.facts (drop tally.course.used pcm)) (heard_as kind address pin (world_of begins).carried)
-        (laws.playing kind codecs 1 (format_word ring.geometry.format) (layout ring.geometry.format) 0 (world_of begins) address pin pair ring pcm tally (read_back ring.geometry.format) hears.steady hears.sent is playing few)))
+        (laws.playing kind codecs 1 (format_word ring.geometry.format) (layout ring.geometry.format) 0 (world_of begins) address pin pair ring pcm tally (read_back ring.geometry.format) hears.steady hears.sent is playing (few laws.grows ring pcm tally tally' runs course begins ends playing small run plays events went alone))))
 
 -- ---- the last call
 

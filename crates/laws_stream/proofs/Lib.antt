@@ -5,7 +5,13 @@ pub mod Runs
 pub mod Calls
 pub mod Silent
 pub mod Begun
+pub mod InTime
 pub mod Ended
+pub mod AloneWrites
+pub mod StreamOn
+pub mod StreamRuns
+pub mod AloneRows
+pub mod CommandsTold
 pub mod Over
 pub mod Callers
 pub mod Kept

@@ -36,7 +36,7 @@ use Rattle.laws_stream.proofs.Beside.{Laws, heard_row}
 reads_steady : (at value : ℕ) → (events : List Event) → All LeavesSteady events → All LeavesSteady (Read at Four value ∷ events)
 reads_steady at value events all = All-cons LeavesSteady (Read at Four value) events (tt {0}) all
 
-stop_steady : All LeavesSteady (Write CONTROL One 0 ∷ [])
+pub stop_steady : All LeavesSteady (Write CONTROL One 0 ∷ [])
 stop_steady = All-cons LeavesSteady (Write CONTROL One 0) [] (record { control = omega arith; corb = inr (omega arith) }, inr (refl, inr (inr (refl, refl)))) (All-nil LeavesSteady)
 
 stops_steady : (was : Ran) → All LeavesSteady (stop_accesses was)

@@ -3,3 +3,5 @@ pub mod Sounding
 pub mod Ending
 pub mod Resting
 pub mod Silent
+pub mod Going
+pub mod Signalled

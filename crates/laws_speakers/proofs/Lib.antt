@@ -1,0 +1,5 @@
+pub mod Agreeing
+pub mod PinPuts
+pub mod SwitchedPins
+pub mod MarkedFrames
+pub mod SetUpSwitched

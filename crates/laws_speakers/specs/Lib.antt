@@ -1,0 +1,3 @@
+pub mod Pins
+pub mod SwitchWords
+pub mod SetUpBut
