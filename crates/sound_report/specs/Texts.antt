@@ -8,8 +8,9 @@ use Rattle.sound_report.specs.declared.played.PlayFault.{PlayFault}
 use Rattle.sound_report.specs.declared.played.PlayFault.TheVariants.{Unanswered, Late, CommandsLeft, FramesLeft}
 use Rattle.sound_report.specs.declared.played.CutLine.{CutLine}
 use Rattle.sound_report.specs.declared.played.CutLine.TheVariants.{Failed, Short}
+use Rattle.sound_report.specs.declared.switch.Switch.{Switch}
 use Rattle.sound_report.specs.PlanLines.{plans_lines, newline}
-use Rattle.sound_report.specs.RunLines.{run_line, silence_line, jack_line}
+use Rattle.sound_report.specs.RunLines.{run_line, silence_line, jack_line, switch_line}
 use Rattle.sound_report.specs.PinParts.{pin_part}
 
 -- a command's word: eight lower hexadecimal digits
@@ -85,4 +86,20 @@ abbrev pub text_of : Played → List ℕ
 text_of played =
     plans_lines played.machine.codecs played.plans
     ++ middle_lines played
+    ++ last_line played
+
+-- the lines between the plans and the last one where speakers were switched: the switches stand before the pins
+abbrev pub switched_lines : Played → List Switch → List ℕ
+switched_lines played switches =
+    flat_map run_line played.runs
+    ++ flat_map silence_line played.silences
+    ++ flat_map jack_line played.jacks
+    ++ flat_map switch_line switches
+    ++ flat_map (pin_part played.format.bits) played.heard
+
+-- the text of a run in which speakers were switched
+abbrev pub switched_text : Played → List Switch → List ℕ
+switched_text played switches =
+    plans_lines played.machine.codecs played.plans
+    ++ switched_lines played switches
     ++ last_line played

@@ -11,6 +11,7 @@ mod pins;
 mod plans;
 mod played;
 mod status;
+mod switch;
 mod whole;
 
 pub use pages::{PAGE_LEN, turn};
@@ -18,4 +19,5 @@ pub use pieces::{push_hex, push_number, push_word};
 pub use plans::{push_nid, push_plans};
 pub use played::{CutLine, PlayFault, Played};
 pub use status::Status;
-pub use whole::{report, write_report};
+pub use switch::Switch;
+pub use whole::{report, report_switched, write_report, write_switched};

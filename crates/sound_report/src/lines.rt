@@ -1,4 +1,4 @@
-//! The lines of runs, silences and jacks: each has a line of its own, and the page goes out where it is full.
+//! The lines of runs, silences, jacks and switches: each has a line of its own, and the page goes out where it is full.
 ghost use Rattle.std.specs.Prelude.{◌≡◌, ◌≤◌, ℕ, List, max, ◌++◌, OnOk, codes, decimal};
 ghost use Rattle.std.specs.List.{flat_map};
 ghost use Rattle.hda_outside.specs.Counts.{Rose};
@@ -6,6 +6,8 @@ ghost use Rattle.sound_report.specs.Pages.{Writes};
 ghost use Rattle.sound_report.specs.RunLines as text;
 
 use crate::pages::turn;
+use crate::pieces::{push_hex, push_word};
+use crate::switch::Switch;
 use driver_progress::Jack;
 use hda_outside::{Fault, Sink};
 use period_writer::{Run, Span};
@@ -45,6 +47,37 @@ impl HasLine for Jack {
     fn push_line(&self, page: &mut Vec<u8>) -> Result<(), AllocError> {
         writeln!(page, "jack {} {} {}", self.codec, self.tag, self.times).map_err(|_| AllocError)
     }
+}
+
+impl HasLine for Switch {
+    ghost line = { λ switch. text.switch_line switch };
+
+    fn push_line(&self, page: &mut Vec<u8>) -> Result<(), AllocError> {
+        push_switch(page, *self)
+    }
+}
+
+/// Whether a pin's output is enabled.
+fn push_on(page: &mut Vec<u8>, on: bool) -> Result<(), AllocError>
+    ensures { OnOk result (page.new.items ≡ page.old.items ++ text.on_text on) }
+{
+    if on {
+        push_word(page, "on")
+    } else {
+        push_word(page, "off")
+    }
+}
+
+/// The line of a switch.
+#[tactic(auto, unfolding(crate::specs::PlanLines::nid_text))]
+fn push_switch(page: &mut Vec<u8>, switch: Switch) -> Result<(), AllocError>
+    ensures { OnOk result (page.new.items ≡ page.old.items ++ text.switch_line switch) }
+{
+    write!(page, "switch {} ", switch.codec).map_err(|_| AllocError)?;
+    push_hex(page, &[switch.pin])?;
+    write!(page, " {} ", switch.at).map_err(|_| AllocError)?;
+    push_on(page, switch.on)?;
+    push_word(page, "\n")
 }
 
 /// The lines of these, in order.

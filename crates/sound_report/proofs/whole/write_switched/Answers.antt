@@ -2,7 +2,7 @@ use Rattle.std.proofs.Common.{◌≡◌, rules}
 use Rattle.sound_report.specs.PlanLines.{plans_lines}
 use Rattle.sound_report.specs.Texts.{last_line}
 use Rattle.sound_report.proofs.PageLemmas.{all_taken, front_longer, front_of_rest, front_taken, on_err}
-use Rattle.sound_report.proofs.whole.write_report.Goals as goal
+use Rattle.sound_report.proofs.whole.write_switched.Goals as goal
 
 pub returns-in_err-write_middle-clause-front : goal.returns-in_err-write_middle-clause-front
 returns-in_err-write_middle-clause-front g c =
