@@ -1,0 +1,4 @@
+mod Firsts
+mod Reached
+mod Rows
+mod Choices

@@ -1,0 +1,3 @@
+pub mod JackPins
+pub mod Switching
+pub mod Inside

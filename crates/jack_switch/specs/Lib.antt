@@ -1,0 +1,5 @@
+pub mod SwitchRules
+pub mod JackDrivers
+pub mod JackCalls
+pub mod JackClosing
+pub mod JackSteps

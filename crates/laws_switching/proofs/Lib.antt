@@ -1,0 +1,9 @@
+pub mod BringUps
+pub mod RulesWait
+pub mod ComingGiven
+pub mod ComingOn
+pub mod SwitchedHeard
+pub mod TurnedSetUp
+pub mod SensesTold
+pub mod Choosing
+pub mod Turns
