@@ -120,7 +120,7 @@ def make(folder):
         put("eight_32.txt", turns)], 2.0, 4.0)
     heard = put("microphone.toml", microphone(0x00020040))
     add("capture", ["capture", heard, put("given.wav", sound(48_000, frames - 100)),
-        put("capture.txt", set_up(37) + f"repeat {frames // 48}\nrun 0\nlink 48\nfetch 0 192\nend\nrun 0\n")], 2.0, 4.0)
+        put("capture.txt", set_up(37) + f"repeat {frames // 48}\nrun 0\nlink 48\nfetch 0 192\nend\nrun 0\n")], 1.5, 1.25)
     add("steps", ["play", one, put("steps.wav", sound(48_000, 490_000)),
         put("steps.txt", playing(few, 10_290, "fetch 1 4\nlink 1\n" * 48))], 1.3, None)
     add("runs", ["play", one, put("runs.wav", sound(48_000, 665_000)),
