@@ -1,5 +1,5 @@
 -- How the last call of the driver of a capture leads on, and a whole schedule with it.
-use Rattle.std.proofs.Common.{◌≡◌, inl, inr, ℕ, Bool, false, List, [], ◌∷◌, ◌++◌, length, refl, sym, ap, subst, ◌∙◌, Some, None, append-nil, arith}
+use Rattle.std.proofs.Common.{Box, Global, ◌≡◌, inl, inr, ℕ, Bool, false, List, [], ◌∷◌, ◌++◌, length, refl, sym, ap, subst, ◌∙◌, Some, None, append-nil, arith}
 use Rattle.verb_codes.specs.declared.verbs.Command.{Command}
 use Rattle.codec_graph.specs.declared.raw.RawCodec.{RawCodec}
 use Rattle.stream_format.specs.declared.format.Format.{Format}
@@ -77,11 +77,12 @@ closes_so terms driver closed begun made coming closes =
     (subst (λ (input : Input). Closes (means_by input driver.bring_up.agenda.format) driver.play driver.bring_up driver.writer [] closed (Some begun) (Some made)) coming.setter closes))
 
 module _ (terms : CaptureTerms) (keeps : KeepsFor terms) (without : IsWithoutSteps) (takes : TakesAccesses) (before after : Rig) (begun made : Telling) (driven : Driven) where
-  pub coming_ends : (driver : DriverState Input) (closed : Closed) → IsComingFor terms driver → Accessed (telling_of before) begun Begin
-      → Closes (means_by driver.setter driver.bring_up.agenda.format) driver.play driver.bring_up driver.writer [] closed (Some begun) (Some made) → Accessed made (telling_of after) End
+  pub coming_ends : (boxed : Box (DriverState Input) Global) (closed : Closed) → IsComingFor terms boxed.value → Accessed (telling_of before) begun Begin
+      → Closes (means_by boxed.value.setter boxed.value.bring_up.agenda.format) boxed.value.play boxed.value.bring_up boxed.value.writer [] closed (Some begun) (Some made) → Accessed made (telling_of after) End
       → IsStretchFrom (length (telling_of before).journal) [] (telling_of after).journal → (setting_of after).machine ≡ (setting_of before).machine → LeavesComing closed driven
-      → CaptureEnds terms (Coming driver) driven before after
-  coming_ends driver closed coming opened closing ended stretched machine leaves =
+      → CaptureEnds terms (Coming boxed) driven before after
+  coming_ends boxed closed coming opened closing ended stretched machine leaves =
+      let driver = boxed.value in
       let closes : Closes (means_of terms) false driver.bring_up driver.writer [] closed (Some begun) (Some made) = closes_so terms driver closed begun made coming closing in
       let ends = closes.ends refl in
       let last : driving.Closes (means_of terms) false (parts_with driver.bring_up driver.writer) closes.ended closes.tally (Some begun) (Some made) = record { ends = closes.ends; recorded = closes.recorded; sounds = closes.sounds } in
@@ -108,11 +109,12 @@ module _ (terms : CaptureTerms) (keeps : KeepsFor terms) (without : IsWithoutSte
       }
 
   -- and of one that recorded
-  pub recording_ends : (driver : RecordingState) (closed : RecordingClosed) → IsRecordingFor terms driver → IsRecordingDriver driver → IsRecorder driver.recorder → Accessed (telling_of before) begun Begin
-      → ClosesRecording driver closed (Some begun) (Some made) → Accessed made (telling_of after) End
+  pub recording_ends : (boxed : Box RecordingState Global) (closed : RecordingClosed) → IsRecordingFor terms boxed.value → IsRecordingDriver boxed.value → IsRecorder boxed.value.recorder → Accessed (telling_of before) begun Begin
+      → ClosesRecording boxed.value closed (Some begun) (Some made) → Accessed made (telling_of after) End
       → IsStretchFrom (length (telling_of before).journal) [] (telling_of after).journal → (setting_of after).machine ≡ (setting_of before).machine → LeavesRecording closed driven
-      → CaptureEnds terms (Recording driver) driven before after
-  recording_ends driver closed recording of_driver of_recorder opened closes ended stretched machine leaves =
+      → CaptureEnds terms (Recording boxed) driven before after
+  recording_ends boxed closed recording of_driver of_recorder opened closes ended stretched machine leaves =
+      let driver = boxed.value in
       let ends = closes.ends in
       let run : Run ends.made (telling_of before) (telling_of after) = run_of ends.made (telling_of before) begun made (telling_of after) opened ends.by.is.by ended in
       let laid : run.events ≡ stretch [] (accesses_of run.events) =
@@ -143,11 +145,11 @@ module _ (terms : CaptureTerms) (keeps : KeepsFor terms) (without : IsWithoutSte
 first_fits : (terms : CaptureTerms) (capturer : Capturer) → IsCapturerFor terms capturer → AreFirstFits terms.geometry (blocks_in capturer)
 first_fits terms (Coming driver) is = record {
   free = is.free;
-  taken = driver.pool;
+  taken = driver.value.pool;
   all_free = is.all_free;
   opens = is.takes;
-  corb_aligned = driver.bring_up.engine.corb.aligned;
-  rirb_aligned = driver.bring_up.engine.rirb.aligned;
+  corb_aligned = driver.value.bring_up.engine.corb.aligned;
+  rirb_aligned = driver.value.bring_up.engine.rirb.aligned;
 }
 first_fits terms (Recording driver) is = is.first_fits
 
@@ -161,8 +163,8 @@ has_task terms (Recording driver) task is blocks ring = record {
   geometry = ring ∙ sym is.geometry;
 }
 
-pub both_drive : (terms : CaptureTerms) (schedule : Schedule) (old : DriverState Input) (middle : Capturer) (driven : Driven) (before between after : Rig) → CaptureRan terms (items_of schedule) (Coming old) middle before between
-    → CaptureEnds terms middle driven between after → CaptureDriven terms schedule old driven before after
+pub both_drive : (terms : CaptureTerms) (schedule : Schedule) (old : Box (DriverState Input) Global) (middle : Capturer) (driven : Driven) (before between after : Rig) → CaptureRan terms (items_of schedule) (Coming old) middle before between
+    → CaptureEnds terms middle driven between after → CaptureDriven terms schedule old.value driven before after
 both_drive terms schedule old middle driven before between after ran ends = record {
   blocks = blocks_in middle;
   first_fits = first_fits terms middle ran.stays;
@@ -178,3 +180,7 @@ both_drive terms schedule old middle driven before between after ran ends = reco
       (subst (λ (lines : List DriverLine). GoesOn terms verbs graphs task (lines_of schedule) lines (Coming old) (telling_of before)) (sym (append-nil (lines_of schedule))) on)));
   machine = ends.machine ∙ ran.machine;
 }
+
+-- so it is of the driver that it was made of
+pub drives_as : {terms : CaptureTerms} {schedule : Schedule} {one other : DriverState Input} {driven : Driven} {before after : Rig} → one ≡ other → CaptureDriven terms schedule one driven before after → CaptureDriven terms schedule other driven before after
+drives_as {terms} {schedule} {one} {other} {driven} {before} {after} same drives = subst (λ (driver : DriverState Input). CaptureDriven terms schedule driver driven before after) same drives

@@ -71,9 +71,9 @@ module _ (terms : CaptureTerms) where
   -- a step of the device leads on
   step_leads : KeepsFor terms → (step : Step) (capturer : Capturer) (before after : Telling) → Went before after (Stepped step ∷ []) → CaptureLeadsOn terms (lines_in (Device step ∷ [])) capturer capturer before after
   step_leads keeps step (Coming driver) before after went verbs graphs task nid all left is has short on =
-      (keeps verbs graphs task nid is).steps all left (parts_with driver.bring_up driver.writer) (step ∷ []) before after went on
+      (keeps verbs graphs task nid is).steps all left (parts_with driver.value.bring_up driver.value.writer) (step ∷ []) before after went on
   step_leads keeps step (Recording driver) before after went verbs graphs task nid all left is has short on =
-      (keeps verbs graphs task nid is).records_steps all left driver (step ∷ []) before after went on
+      (keeps verbs graphs task nid is).records_steps all left driver.value (step ∷ []) before after went on
 
   pub step_ran : KeepsFor terms → (step : Step) (capturer : Capturer) (before after : Rig) → FollowItems (Device step ∷ []) (Stepped step ∷ []) → Went (telling_of before) (telling_of after) (Stepped step ∷ [])
       → (setting_of before).in_run ≡ false → setting_of after ≡ setting_of before → IsCapturerFor terms capturer → CaptureRan terms (Device step ∷ []) capturer capturer before after

@@ -1,9 +1,11 @@
 -- How a driver line that was run for a capture leads on: while codecs come up, at the turn, and while it records.
-use Rattle.std.proofs.Common.{◌≡◌, ◌≢◌, ◌≤◌, ◌+◌, ℕ, Bool, true, false, List, [], ◌∷◌, ◌++◌, length, refl, sym, ap, subst, ◌∙◌, arith, Some}
+use Rattle.std.specs.Box.{with_value}
+use Rattle.std.proofs.Common.{Box, Global, ◌≡◌, ◌≢◌, ◌≤◌, ◌+◌, ℕ, Bool, true, false, List, [], ◌∷◌, ◌++◌, length, refl, sym, ap, subst, ◌∙◌, arith, Some}
 use Rattle.std.specs.Prelude.{Option, None}
 use Rattle.analog_in.specs.declared.input.Input.{Input}
 use Rattle.dma_pool.specs.Pools.{PoolState}
 use Rattle.dma_pool.specs.declared.blocks.Lent.{Lent}
+use Rattle.schedule_reader.specs.declared.schedule.Item.{Item}
 use Rattle.schedule_reader.specs.declared.schedule.Item.TheVariants.{Drive}
 use Rattle.schedule_reader.specs.declared.schedule.DriverLine as scheduled
 use Rattle.hda_world.specs.Events.{Event, Begin, End}
@@ -36,6 +38,7 @@ use Rattle.program_runs.specs.Lines.{driver_line_of}
 use Rattle.program_runs.specs.FirstFits.{AreFirstFits}
 use Rattle.program_runs.proofs.Callers.{FollowsLine, Run, run_of, short_before, not_wrapped}
 use Rattle.program_captures.specs.declared.terms.CaptureTerms.{CaptureTerms}
+use Rattle.program_captures.specs.declared.capturer.Capturer.{Capturer}
 use Rattle.program_captures.specs.declared.capturer.Capturer.TheVariants.{Coming, Recording}
 use Rattle.program_captures.specs.Capturing.{CaptureRan, RecordsLine, IsComingFor, IsRecordingFor, AreFitsOf, means_of, total_of, parts_with, recorder_blocks}
 use Rattle.program_captures.proofs.Going.{KeepsFor}
@@ -71,10 +74,10 @@ coming_stays terms old new coming kept keeps writer supply = record {
       (subst (λ (corb : Lent). OpensDriver terms.geometry coming.free corb.address old.bring_up.engine.rirb.address old.writer.list.address (periods_of old.writer) old.pool) (sym kept.corb) coming.takes)));
 }
 
-module _ (terms : CaptureTerms) (keeps : KeepsFor terms) (follows : FollowsLine) (line : scheduled.DriverLine) (old new : DriverState Input) (before after : Rig) (begun made : Telling) where
-  pub coming_ran : Accessed (telling_of before) begun Begin → is_ready old.bring_up.phase ≡ false
-      → Calls (means_of terms) false line.irq line.budget (parts_with old.bring_up old.writer) (parts_with new.bring_up new.writer) (Some begun) (Some made) → Accessed made (telling_of after) End
-      → IsStretchFrom (length (telling_of before).journal) line.groups (telling_of after).journal → IsKept old.bring_up new.bring_up → new.calls ≡ old.calls + 1 → IsComingFor terms new
+module _ (terms : CaptureTerms) (keeps : KeepsFor terms) (follows : FollowsLine) (line : scheduled.DriverLine) (old new : Box (DriverState Input) Global) (before after : Rig) (begun made : Telling) where
+  pub coming_ran : Accessed (telling_of before) begun Begin → is_ready old.value.bring_up.phase ≡ false
+      → Calls (means_of terms) false line.irq line.budget (parts_with old.value.bring_up old.value.writer) (parts_with new.value.bring_up new.value.writer) (Some begun) (Some made) → Accessed made (telling_of after) End
+      → IsStretchFrom (length (telling_of before).journal) line.groups (telling_of after).journal → IsKept old.value.bring_up new.value.bring_up → new.value.calls ≡ old.value.calls + 1 → IsComingFor terms new.value
       → (setting_of after).in_run ≡ false → (setting_of after).machine ≡ (setting_of before).machine
       → CaptureRan terms (Drive line ∷ []) (Coming old) (Coming new) before after
   coming_ran opened early calls ended stretched kept more stays between machine =
@@ -85,7 +88,7 @@ module _ (terms : CaptureTerms) (keeps : KeepsFor terms) (follows : FollowsLine)
         went = run.went;
         follow = follows line (telling_of before).journal run.events (subst (λ (journal : List Event). IsStretchFrom (length (telling_of before).journal) line.groups journal) run.went.journal stretched);
         leads = λ verbs graphs task nid all left is has short on.
-            ((keeps verbs graphs task nid is).calls all left (driver_line_of line) (parts_with old.bring_up old.writer) (parts_with new.bring_up new.writer) (telling_of before) begun made (telling_of after) opened early calls ended
+            ((keeps verbs graphs task nid is).calls all left (driver_line_of line) (parts_with old.value.bring_up old.value.writer) (parts_with new.value.bring_up new.value.writer) (telling_of before) begun made (telling_of after) opened early calls ended
             (not_wrapped made (short_before made (telling_of after) _ ended.went short)) on);
         keeps = λ task has. has;
         stays = stays;
@@ -95,6 +98,25 @@ module _ (terms : CaptureTerms) (keeps : KeepsFor terms) (follows : FollowsLine)
         between = between;
         machine = machine;
       }
+
+-- what is said of a driver in memory of its own is said of it in any other
+rehoused : (terms : CaptureTerms) (items : List Item) (old other : Box (DriverState Input) Global) (new : Capturer) (before after : Rig) → CaptureRan terms items (Coming old) new before after → CaptureRan terms items (Coming (with_value other old.value)) new before after
+rehoused terms items old other new before after ran = record {
+  events = ran.events;
+  went = ran.went;
+  follow = ran.follow;
+  leads = ran.leads;
+  keeps = ran.keeps;
+  stays = ran.stays;
+  corb = ran.corb;
+  rirb = ran.rirb;
+  calls = ran.calls;
+  between = ran.between;
+  machine = ran.machine;
+}
+
+pub ran_in : (terms : CaptureTerms) (items : List Item) (old other : Box (DriverState Input) Global) (new : Capturer) (before after : Rig) → old.value ≡ other.value → CaptureRan terms items (Coming old) new before after → CaptureRan terms items (Coming other) new before after
+ran_in terms items old other new before after same ran = subst (λ (driver : DriverState Input). CaptureRan terms items (Coming (with_value other driver)) new before after) same (rehoused terms items old other new before after ran)
 
 -- ---- while it records
 
@@ -152,7 +174,7 @@ line_recorded terms follows line old new before after begun made recording of_dr
       machine = machine;
     }
 
-pub recorded_ran : (terms : CaptureTerms) → KeepsFor terms → (line : scheduled.DriverLine) (old new : RecordingState) (before after : Rig) → RecordsLine terms line old new before after
+pub recorded_ran : (terms : CaptureTerms) → KeepsFor terms → (line : scheduled.DriverLine) (old new : Box RecordingState Global) (before after : Rig) → RecordsLine terms line old.value new.value before after
     → CaptureRan terms (Drive line ∷ []) (Recording old) (Recording new) before after
 recorded_ran terms keeps line old new before after ran =
     let more = ran.calls in record {
@@ -160,9 +182,9 @@ recorded_ran terms keeps line old new before after ran =
       went = ran.went;
       follow = ran.follow;
       leads = λ verbs graphs task nid all left is has short on.
-          ((keeps verbs graphs task nid is).records_runs all left (driver_line_of line) old new (telling_of before) ran.begun ran.made (telling_of after) ran.driver ran.recorder ran.opened ran.records ran.ended
+          ((keeps verbs graphs task nid is).records_runs all left (driver_line_of line) old.value new.value (telling_of before) ran.begun ran.made (telling_of after) ran.driver ran.recorder ran.opened ran.records ran.ended
           (not_wrapped ran.made (short_before ran.made (telling_of after) _ ran.ended.went short)) on);
-      keeps = λ task has. task_before old new task ran.kept has;
+      keeps = λ task has. task_before old.value new.value task ran.kept has;
       stays = ran.stays;
       corb = ap (λ (lent : Lent). lent.address) ran.kept.corb;
       rirb = ap (λ (lent : Lent). lent.address) ran.kept.rirb;
@@ -200,9 +222,10 @@ pub opened_recording : (terms : CaptureTerms) (parts : Left) (opened : Recording
     → IsRecordingFor terms opened
 opened_recording terms parts opened ring opens fits = record { geometry = opens.geometry ∙ ring; total_is = opens.total_is; runs = opens.runs_is; first_fits = fits }
 
-pub turned_ran : (terms : CaptureTerms) → KeepsFor terms → (line : scheduled.DriverLine) (driver : DriverState Input) (parts : Left) (opened new : RecordingState) (before after : Rig) → IsComingFor terms driver → ArePartsOf driver parts
-    → OpensRecording parts terms.runs (total_of terms) opened → RecordsLine terms line opened new before after → CaptureRan terms (Drive line ∷ []) (Coming driver) (Recording new) before after
-turned_ran terms keeps line driver parts opened new before after coming are opens ran =
+pub turned_ran : (terms : CaptureTerms) → KeepsFor terms → (line : scheduled.DriverLine) (boxed : Box (DriverState Input) Global) (parts : Left) (opened : RecordingState) (new : Box RecordingState Global) (before after : Rig) → IsComingFor terms boxed.value → ArePartsOf boxed.value parts
+    → OpensRecording parts terms.runs (total_of terms) opened → RecordsLine terms line opened new.value before after → CaptureRan terms (Drive line ∷ []) (Coming boxed) (Recording new) before after
+turned_ran terms keeps line boxed parts opened new before after coming are opens ran =
+    let driver = boxed.value in
     let none = opens.calls_is in
     let more = ran.calls in
     let engine : opened.engine ≡ driver.bring_up.engine = opens.engine ∙ are.engine in
@@ -212,8 +235,8 @@ turned_ran terms keeps line driver parts opened new before after coming are open
       went = ran.went;
       follow = ran.follow;
       leads = λ verbs graphs task nid all left is has short on.
-          ((keeps verbs graphs task nid is).turns all left (driver_line_of line) (parts_with driver.bring_up driver.writer) opened new (telling_of before) ran.begun ran.made (telling_of after) ready
-          (made_of terms driver parts opened are opens) ran.driver ran.recorder (task_before opened new task ran.kept has) ran.opened ran.records ran.ended
+          ((keeps verbs graphs task nid is).turns all left (driver_line_of line) (parts_with driver.bring_up driver.writer) opened new.value (telling_of before) ran.begun ran.made (telling_of after) ready
+          (made_of terms driver parts opened are opens) ran.driver ran.recorder (task_before opened new.value task ran.kept has) ran.opened ran.records ran.ended
           (not_wrapped ran.made (short_before ran.made (telling_of after) _ ran.ended.went short)) (told_whole before) on);
       keeps = λ task has. tt;
       stays = ran.stays;

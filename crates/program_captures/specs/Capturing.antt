@@ -100,30 +100,30 @@ pub record IsRecordingFor (terms : CaptureTerms) (driver : RecordingState) : Typ
 -- ---- either
 
 abbrev pub IsCapturerFor : CaptureTerms → Capturer → Type 0
-IsCapturerFor terms (Coming driver) = IsComingFor terms driver
-IsCapturerFor terms (Recording driver) = IsRecordingFor terms driver
+IsCapturerFor terms (Coming driver) = IsComingFor terms driver.value
+IsCapturerFor terms (Recording driver) = IsRecordingFor terms driver.value
 
 abbrev pub calls_of : Capturer → ℕ
-calls_of (Coming driver) = driver.calls
-calls_of (Recording driver) = driver.calls
+calls_of (Coming driver) = driver.value.calls
+calls_of (Recording driver) = driver.value.calls
 
 abbrev pub blocks_in : Capturer → Blocks
-blocks_in (Coming driver) = blocks_of driver.bring_up driver.writer
-blocks_in (Recording driver) = recorder_blocks driver
+blocks_in (Coming driver) = blocks_of driver.value.bring_up driver.value.writer
+blocks_in (Recording driver) = recorder_blocks driver.value
 
 -- a task with its blocks: of one that brings its codecs up nothing is asked yet
 abbrev pub HasTask : Capturer → Task → Type 0
 HasTask (Coming driver) task = Unit {0}
-HasTask (Recording driver) task = IsTaskOfRecording driver task
+HasTask (Recording driver) task = IsTaskOfRecording driver.value task
 
 -- between two calls, with these lines left
 abbrev pub GoesOn : CaptureTerms → (RawCodec → List Command) → List RawCodec → Task → (all left : List DriverLine)
     → Capturer → Telling → Type 0
 GoesOn terms verbs graphs task all left (Coming driver) telling =
-    IsComing (means_of terms) verbs graphs task (total_of terms) all left (parts_with driver.bring_up driver.writer)
-    telling
+    IsComing (means_of terms) verbs graphs task (total_of terms) all left
+    (parts_with driver.value.bring_up driver.value.writer) telling
 GoesOn terms verbs graphs task all left (Recording driver) telling =
-    CaptureGoesOn (means_of terms) graphs task all left driver telling
+    CaptureGoesOn (means_of terms) graphs task all left driver.value telling
 
 -- ---- how it goes on
 

@@ -14,7 +14,7 @@ ghost use Rattle.rig.specs.Rigs.{setting_of};
 ghost use Rattle.program_captures.specs.Inputs.{capture_means};
 ghost use Rattle.program_captures.specs.Capturing as spec;
 
-use crate::capturer::Capturer;
+use crate::capturer::{Capturer, boxed_coming, boxed_recording};
 use crate::opening::open_recording;
 use crate::terms::CaptureTerms;
 use analog_in::Input;
@@ -83,14 +83,14 @@ fn call_recording<P: Platform>(platform: &mut P, driver: &mut RecordingDriver, l
 /// Want of memory.
 fn coming_line(
     rig: &mut Rig,
-    driver: &mut Driver<Input>,
+    driver: &mut Box<Driver<Input>>,
     line: &DriverLine,
     terms: CaptureTerms,
 ) -> Result<(), AllocError>
     requires between { (setting_of rig.old).in_run ≡ false }
-    requires coming { spec.IsComingFor terms driver.old }
-    requires early { is_ready driver.old.bring_up.phase ≡ false }
-    requires few { driver.old.calls < driver.old.runs }
+    requires coming { spec.IsComingFor terms driver.old.value }
+    requires early { is_ready driver.old.value.bring_up.phase ≡ false }
+    requires few { driver.old.value.calls < driver.old.value.runs }
     ensures { OnOk result (spec.CaptureRan terms (Drive line.now ∷ []) (Capturer.Coming driver.old)
         (Capturer.Coming driver.new) rig.old rig.new) }
 {
@@ -108,21 +108,21 @@ fn coming_line(
 /// Want of memory.
 fn run_coming(
     rig: &mut Rig,
-    mut driver: Driver<Input>,
+    mut driver: Box<Driver<Input>>,
     line: &DriverLine,
     terms: CaptureTerms,
-) -> Result<Driver<Input>, AllocError>
+) -> Result<Box<Driver<Input>>, AllocError>
     requires between { (setting_of rig.old).in_run ≡ false }
-    requires coming { spec.IsComingFor terms driver }
-    requires early { is_ready driver.bring_up.phase ≡ false }
-    requires few { driver.calls < driver.runs }
+    requires coming { spec.IsComingFor terms driver.value }
+    requires early { is_ready driver.value.bring_up.phase ≡ false }
+    requires few { driver.value.calls < driver.value.runs }
     ensures { IfOk result (λ later. spec.CaptureRan terms (Drive line.now ∷ []) (Capturer.Coming driver)
         (Capturer.Coming later) rig.old rig.new) }
 {
     match coming_line(rig, &mut driver, line, terms) {
         Ok(()) => Ok(driver),
         Err(failed) => {
-            let _ = driver.abandon();
+            let _ = Box::into_inner(driver).abandon();
             Err(failed)
         }
     }
@@ -157,19 +157,19 @@ fn recording_line(
 /// Want of memory.
 fn run_recording(
     rig: &mut Rig,
-    mut driver: RecordingDriver,
+    mut driver: Box<RecordingDriver>,
     line: &DriverLine,
     terms: CaptureTerms,
-) -> Result<RecordingDriver, AllocError>
+) -> Result<Box<RecordingDriver>, AllocError>
     requires between { (setting_of rig.old).in_run ≡ false }
-    requires recording { spec.IsRecordingFor terms driver }
-    requires few { driver.calls < driver.runs }
-    ensures { IfOk result (λ later. spec.RecordsLine terms line.now driver later rig.old rig.new) }
+    requires recording { spec.IsRecordingFor terms driver.value }
+    requires few { driver.value.calls < driver.value.runs }
+    ensures { IfOk result (λ later. spec.RecordsLine terms line.now driver.value later.value rig.old rig.new) }
 {
     match recording_line(rig, &mut driver, line, terms) {
         Ok(()) => Ok(driver),
         Err(failed) => {
-            let _ = driver.abandon();
+            let _ = Box::into_inner(driver).abandon();
             Err(failed)
         }
     }
@@ -198,13 +198,15 @@ pub(crate) fn run_line(
             let driver = run_recording(rig, driver, line, terms)?;
             Ok(Capturer::Recording(driver))
         }
-        Capturer::Coming(driver) => match driver.into_parts() {
+        Capturer::Coming(driver) => match Box::into_inner(driver).into_parts() {
             Ok(parts) => {
                 let driver = open_recording(alloc, parts, terms)?;
+                let driver = boxed_recording(alloc, driver)?;
                 let driver = run_recording(rig, driver, line, terms)?;
                 Ok(Capturer::Recording(driver))
             }
             Err(driver) => {
+                let driver = boxed_coming(alloc, driver)?;
                 let driver = run_coming(rig, driver, line, terms)?;
                 Ok(Capturer::Coming(driver))
             }

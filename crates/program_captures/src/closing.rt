@@ -5,7 +5,7 @@ ghost use Rattle.program_runs.specs.Lines.{lines_of};
 ghost use Rattle.program_captures.specs.Capturing as spec;
 ghost use Rattle.program_captures.specs.Ending as ending;
 
-use crate::capturer::Capturer;
+use crate::capturer::{Capturer, boxed_coming};
 use crate::items::run_schedule;
 use crate::terms::CaptureTerms;
 use analog_in::Input;
@@ -41,11 +41,11 @@ pub(crate) struct Driven {
 fn close_coming(
     alloc: Global,
     rig: &mut Rig,
-    driver: Driver<Input>,
+    driver: Box<Driver<Input>>,
     terms: CaptureTerms,
 ) -> Result<Driven, AllocError>
     requires between { (setting_of rig.old).in_run ≡ false }
-    requires coming { spec.IsComingFor terms driver }
+    requires coming { spec.IsComingFor terms driver.value }
     ensures { IfOk result (λ driven. ending.CaptureEnds terms (Capturer.Coming driver) driven rig.old rig.new) }
 {
     drivers_that_capture_keep_to_progress::<Input>();
@@ -53,11 +53,11 @@ fn close_coming(
     match rig.begin(&[], ROOM_ACCESSES, terms.room()) {
         Ok(()) => {}
         Err(failed) => {
-            let _ = driver.abandon();
+            let _ = Box::into_inner(driver).abandon();
             return Err(failed);
         }
     }
-    let closed = driver.close(rig)?;
+    let closed = Box::into_inner(driver).close(rig)?;
     rig.end();
     Ok(Driven {
         phase: closed.phase,
@@ -74,11 +74,11 @@ fn close_coming(
 /// Want of memory.
 fn close_recording(
     rig: &mut Rig,
-    driver: RecordingDriver,
+    driver: Box<RecordingDriver>,
     terms: CaptureTerms,
 ) -> Result<Driven, AllocError>
     requires between { (setting_of rig.old).in_run ≡ false }
-    requires recording { spec.IsRecordingFor terms driver }
+    requires recording { spec.IsRecordingFor terms driver.value }
     ensures { IfOk result (λ driven. ending.CaptureEnds terms (Capturer.Recording driver) driven rig.old rig.new) }
 {
     drivers_that_capture_keep_to_progress::<Input>();
@@ -86,12 +86,12 @@ fn close_recording(
     match rig.begin(&[], ROOM_ACCESSES, terms.room()) {
         Ok(()) => {}
         Err(failed) => {
-            let _ = driver.abandon();
+            let _ = Box::into_inner(driver).abandon();
             return Err(failed);
         }
     }
     let _phase = driver.phase();
-    let closed = driver.close(rig);
+    let closed = Box::into_inner(driver).close(rig);
     rig.end();
     let RecordingClosed {
         phase,
@@ -128,6 +128,7 @@ pub(crate) fn drive(
     requires few { driver.calls + length (lines_of schedule.now) ≤ terms.runs }
     ensures { IfOk result (λ driven. ending.CaptureDriven terms schedule.now driver driven rig.old rig.new) }
 {
+    let driver = boxed_coming(alloc, driver)?;
     let capturer = run_schedule(alloc, rig, Capturer::Coming(driver), schedule, terms)?;
     match capturer {
         Capturer::Coming(driver) => close_coming(alloc, rig, driver, terms),
