@@ -49,7 +49,8 @@ impl Switching {
     pub fn new(alloc: Global, graphs: &[Graph], plans: &[Plan]) -> Result<Switching, AllocError>
         requires one_each { length plans.now ≡ length graphs.now }
         requires few { All (λ codec. codec.address ≤ 14) graphs.now }
-        ensures { IfOk result (λ switching. switching ≡ spec.switching_opened graphs.now plans.now) }
+        ensures opened { IfOk result (λ switching. switching ≡ spec.switching_opened graphs.now plans.now) }
+        ensures reach { IfOk result spec.AreInReach }
     {
         let jacks = open_jacks(alloc, graphs, plans)?;
         let speakers = open_speakers(alloc, &jacks, graphs, plans)?;

@@ -10,11 +10,14 @@ use Rattle.wav_reader.specs.Supplies.{MayGive, EndsWith, sound_before}
 use Rattle.command_engine.specs.declared.answers.Event as told
 use Rattle.command_engine.specs.declared.ring_places.RingPlaces.{RingPlaces}
 use Rattle.command_engine.specs.Entries.{responses_in, unasked_events_of}
-use Rattle.command_engine.specs.Polling.{PollReads, AreNew, poll_accesses, rings_polled, answer_limit}
+use Rattle.command_engine.specs.Polling.{PollReads, AreNew, poll_accesses, found_by, rings_polled, answer_limit}
 use Rattle.command_engine.specs.Told.{PollTellsOf, LeadsOn}
 use Rattle.period_writer.specs.declared.registers.TheConstants.{CONTROL}
 use Rattle.period_writer.specs.Outcomes.{StartTellsOf, RunTellsOf, FinishTellsOf}
-use Rattle.period_writer.specs.Writers.{tally_of, ring_of}
+use Rattle.period_writer.specs.Playing.{run_bytes, play_accesses}
+use Rattle.period_writer.specs.Runs.{facts_of}
+use Rattle.period_writer.specs.Starting.{start_accesses}
+use Rattle.period_writer.specs.Writers.{tally_of, ring_of, measures_of, periods_of}
 use Rattle.driver_progress.specs.Shutting.{shut_accesses}
 use Rattle.driver_progress.specs.Tasks.{Task, Order}
 use Rattle.driver_progress.specs.Unread.{AreAccesses}
@@ -25,7 +28,9 @@ use Rattle.driver_bring_up.specs.Told.{IsBefore, found_none}
 use Rattle.audio_driver.specs.Sounding.{IsLook}
 use Rattle.audio_driver.specs.States.{is_playing, IsLeft, EndsWhilePlaying}
 use Rattle.driver_rules.specs.Onward.{IsRuleStretch}
-use Rattle.jack_switch.specs.SwitchRules.{SwitchState, switch_rules, is_on}
+use Rattle.jack_rules.specs.Switching.{SwitchingState, told_all}
+use Rattle.jack_switch.specs.SwitchRules.{SwitchState, switch_rules, is_on, choice_by, order_by, choice_after}
+use Rattle.jack_switch.specs.SwitchRules.{order_after}
 use Rattle.jack_switch.specs.JackDrivers.{JackDriverState, switch_state, IsTaskOfSwitching}
 
 -- ---- as it is told
@@ -47,6 +52,11 @@ pub record Looks (old : JackDriverState) (reads : PollReads) (before after : Tel
       (poll_by old.engine.rings reads old.clock) (rings_polled old.engine.rings reads)
       (unasked_events_of (responses_in reads.entries)) before after
 
+-- what the jack rules keep after it
+abbrev pub switching_looked : JackDriverState → PollReads → SwitchingState
+switching_looked old reads = told_all old.switching (unasked_events_of (responses_in reads.entries))
+    (found_by old.engine.rings reads)
+
 -- the next command after a run, if one comes, where the rings stood so
 pub record Submits (corb rirb : ℕ) (rings rings' : RingPlaces) (order : Option Order) (clock : ℕ)
     (before after : Telling) : Type 0 where
@@ -62,13 +72,23 @@ pub record Begins (irq : Bool) (budget : ℕ) (old new : JackDriverState) (suppl
   pub is_before : IsBefore irq first
   pub begins : Telling
   pub first_made : Makes first before begins
+  pub from : ℕ
+  pub in_reset : ℕ
+  pub ready : ℕ
+  pub to : ℕ
   pub run : List Event
+  pub run_is : let facts = facts_of budget (length supply) from 0 to in
+      run ≡ start_accesses old.writer.geometry old.writer.list.address (periods_of old.writer) from in_reset ready to
+      (run_bytes (measures_of old.writer) old.writer.course facts supply)
   pub ran : Telling
   pub run_made : Makes run begins ran
   pub run_tells : StartTellsOf (ring_of old.writer) supply budget (tally_of old.writer) (tally_of new.writer) begins ran
   pub order : Option Order
   pub submits : Submits old.engine.corb.address old.engine.rirb.address old.engine.rings new.engine.rings order
       new.clock ran after
+  pub order_is : order ≡ order_after (switch_state old) new.writer.course.ran
+  pub switching_is : new.switching ≡ (choice_after (switch_state old) new.writer.course.ran).next
+  pub given_is : new.given_up ≡ old.given_up
   pub made_is : made ≡ first ++ (run ++ submit_made old.engine.corb.address old.engine.rings order)
 
 -- a later run, after the look for interrupts and that for answers
@@ -83,7 +103,12 @@ pub record GoesOn (irq : Bool) (budget : ℕ) (old new : JackDriverState) (suppl
   pub reads : PollReads
   pub looked : Telling
   pub looks : Looks old reads begins looked
+  pub from : ℕ
+  pub lpib : ℕ
+  pub to : ℕ
   pub run : List Event
+  pub run_is : run ≡ play_accesses old.writer.geometry (periods_of old.writer) old.writer.course
+      (facts_of budget (length supply) from lpib to) supply new.writer.course.ran
   pub ran : Telling
   pub run_made : Makes run looked ran
   pub run_tells : (pcm : List ℕ) → supply ≡ drop old.writer.course.used pcm
@@ -92,6 +117,11 @@ pub record GoesOn (irq : Bool) (budget : ℕ) (old new : JackDriverState) (suppl
   pub order : Option Order
   pub submits : Submits old.engine.corb.address old.engine.rirb.address (rings_polled old.engine.rings reads)
       new.engine.rings order new.clock ran after
+  pub order_is : order ≡ order_by new.writer.course.ran (rings_polled old.engine.rings reads)
+      (switching_looked old reads)
+  pub switching_is : new.switching ≡ (choice_by new.writer.course.ran (rings_polled old.engine.rings reads)
+      (switching_looked old reads)).next
+  pub given_is : new.given_up ≡ old.given_up
   pub made_is : made ≡ first ++ (poll_accesses old.engine.rirb.address old.engine.rings reads
       ++ (run ++ submit_made old.engine.corb.address (rings_polled old.engine.rings reads) order))
 
@@ -108,6 +138,7 @@ pub record GivesUp (irq : Bool) (old new : JackDriverState) (made : List Event) 
   pub looks : Looks old reads begins looked
   pub stopped : Makes (Write CONTROL One 0 ∷ []) looked after
   pub rings : new.engine.rings ≡ rings_polled old.engine.rings reads
+  pub switching_is : new.switching ≡ switching_looked old reads
   pub given : new.given_up ≡ Some old.clock
   pub writer : new.writer ≡ old.writer
   pub made_is : made ≡ first ++ (poll_accesses old.engine.rirb.address old.engine.rings reads
@@ -182,6 +213,8 @@ pub record StopsSound (old : JackDriverState) (ended : SwitchState) (supply : Li
       → FinishTellsOf (ring_of old.writer) pcm (tally_of old.writer) ended.tally.course.ran ended.tally looked ran
   pub shut : Makes shut_accesses ran after
   pub rings : ended.rings ≡ rings_polled old.engine.rings reads
+  pub kept : ended.given_up ≡ old.given_up
+  pub entries : entries_in made ≡ reads.entries
   pub made_is : made ≡ poll_accesses old.engine.rirb.address old.engine.rings reads ++ (run ++ shut_accesses)
 
 -- or it gives up: after that look it stops the stream, and then the end
@@ -198,6 +231,7 @@ pub record StopsAtOnce (old : JackDriverState) (ended : SwitchState) (made : Lis
   pub rings : ended.rings ≡ rings_polled old.engine.rings reads
   pub given : ended.given_up ≡ Some old.clock
   pub tally : ended.tally ≡ tally_of old.writer
+  pub entries : entries_in made ≡ reads.entries
   pub made_is : made ≡ poll_accesses old.engine.rirb.address old.engine.rings reads
       ++ (Write CONTROL One 0 ∷ shut_accesses)
 

@@ -24,7 +24,7 @@ use Rattle.audio_driver.specs.Parting.{IsBesideRing}
 use Rattle.audio_driver.specs.States.{IsLeft, played_as}
 use Rattle.jack_rules.specs.declared.pins.JackPin.{JackPin}
 use Rattle.jack_rules.specs.JackPins.{jacks_of, speakers_of}
-use Rattle.jack_rules.specs.Switching.{SwitchingState, pin_of, sense_command, switching_opened}
+use Rattle.jack_rules.specs.Switching.{SwitchingState, AreInReach, pin_of, sense_command, switching_opened}
 use Rattle.jack_switch.specs.SwitchRules.{SwitchState, is_on, is_overdue}
 
 -- a driver that switches: both sides of it, the sound that is still to come, the pool that their blocks were taken
@@ -106,6 +106,8 @@ pub record IsJackDriver (driver : JackDriverState) : Type 0 where
   pub few_calls : driver.calls ≤ driver.runs
   pub few_recorded : length driver.writer.runs ≤ driver.calls
   pub pins : IsSwitchingOf driver.graphs driver.plans driver.switching
+  -- codecs can have them, so that each command that is chosen can be sent
+  pub reach : AreInReach driver.switching
   pub asked : IsAskedBy driver.engine.rings.outstanding driver.switching.asking
   -- before its first run nothing was done
   pub fresh : driver.writer.course.started ≡ false → tally_of driver.writer ≡ tally_opened

@@ -28,6 +28,8 @@ pub record LooksNow (old new : EngineState) (clock : ℕ) (switching switching' 
   pub tells : Between (PollTellsOf clock old.corb.address old.rirb.address old.rings (poll_by old.rings reads clock)
       (rings_polled old.rings reads) (unasked_events_of (responses_in reads.entries))) before after
   pub rings : new.rings ≡ rings_polled old.rings reads
+  pub corb : new.corb ≡ old.corb
+  pub rirb : new.rirb ≡ old.rirb
   pub told : switching' ≡ told_all switching (unasked_events_of (responses_in reads.entries)) (found_by old.rings reads)
   pub overdue_is : overdue ≡ is_overdue new.rings.outstanding clock
 

@@ -3,3 +3,5 @@ pub mod JackDrivers
 pub mod JackCalls
 pub mod JackClosing
 pub mod JackSteps
+pub mod Found
+pub mod Inside

@@ -1,5 +1,5 @@
 //! Laws of the rules, each the contract of a function that does nothing.
-ghost use Rattle.std.specs.Prelude.{◌≡◌, ℕ, true, false, List, [], Option, Some, None};
+ghost use Rattle.std.specs.Prelude.{◌≡◌, ◌<◌, ◌^◌, true, false, List, [], Option, Some, None, IfSome};
 ghost use Rattle.codec_graph.specs.declared.raw.RawCodec.{RawCodec};
 ghost use Rattle.command_engine.specs.declared.answers.Outstanding.{Outstanding};
 ghost use Rattle.driver_progress.specs.Expected.{shuts};
@@ -7,9 +7,14 @@ ghost use Rattle.driver_progress.specs.Tasks.{Order, Task, DriverLine};
 ghost use Rattle.driver_rules.specs.Findings.{Findings};
 ghost use Rattle.driver_rules.specs.Notes.{TakesUp};
 ghost use Rattle.hda_registers.specs.declared.places.TheConstants.{WALCLK};
+ghost use Rattle.jack_rules.specs.Switching.{SwitchingState, AreInReach, KeepsPins, next_choice};
 ghost use Rattle.jack_switch.specs.SwitchRules as spec;
 ghost use Rattle.period_writer.specs.declared.course.Ran.{Ran};
 ghost use Rattle.route_planner.specs.declared.routes.Plan.{Plan};
+ghost use Rattle.verb_codes.specs.declared.verbs.Command.{Command};
+ghost use Rattle.verb_codes.specs.Verbs.{IsInRange, word_of, reading_of};
+
+use jack_rules::choices_are_commands;
 
 /// The tally of runs goes on as progress has it, whatever else a stretch does.
 pub fn switch_rules_take_runs_up()
@@ -52,3 +57,15 @@ pub fn nothing_follows_the_end()
         → spec.is_on state ≡ false → findings.values WALCLK ≡ []
         → spec.switch_next task state turn findings ≡ state }
 {}
+
+/// The word of a command that can be sent is a number of 32 bits, and reads back as the command. So it is with each
+/// command that the rules choose, whose jacks and speakers codecs can have; what changes no pin leaves it so.
+pub fn commands_are_words()
+    ensures words { (command : Command) → IsInRange command
+        → (word_of command < 2 ^ 32) × (reading_of (word_of command) ≡ Some command) }
+    ensures chosen { (switching : SwitchingState) → AreInReach switching → IfSome (next_choice switching).command
+        (λ command. (word_of command < 2 ^ 32) × (reading_of (word_of command) ≡ Some command)) }
+    ensures stays { (old new : SwitchingState) → KeepsPins old new → AreInReach old → AreInReach new }
+{
+    choices_are_commands();
+}

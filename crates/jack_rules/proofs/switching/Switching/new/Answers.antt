@@ -7,8 +7,8 @@ use Rattle.jack_rules.specs.Switching.{SwitchingState, jack_opened, speaker_open
 use Rattle.jack_rules.proofs.Rows.{opened_pins}
 use Rattle.jack_rules.proofs.switching.Switching.new.Goals as goal
 
-pub returns : goal.returns
-returns c =
+pub returns-clause-opened : goal.returns-clause-opened
+returns-clause-opened c =
     let graphs = c.args.graphs.now in
     let plans = c.args.plans.now in
     let jacks = c.in_ok-jacks.ensures.items in

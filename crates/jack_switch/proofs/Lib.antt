@@ -1,0 +1,14 @@
+mod Words
+mod Looked
+mod Kept
+mod Ran
+mod Seeing
+mod PlayedOn
+mod Stretches
+mod Interrupted
+mod Last
+mod Seen
+mod Runs
+mod Submitted
+mod Called
+mod Ended
