@@ -1,22 +1,13 @@
 -- The events that a bring-up's calls make are accesses.
-use Rattle.std.proofs.Common.{◌≡◌, ℕ, Bool, true, false, List, [], ◌++◌, Option, None, Some, refl, ap, subst, ◌∙◌, ◌⊎◌, inl, inr, ◌&&◌}
-use Rattle.std.proofs.lemmas.Bool.{false≢true}
-use Rattle.std.specs.Prelude.{All}
+use Rattle.std.proofs.Common.{◌≡◌, ℕ, Bool, true, false, List, [], Some, refl, ◌⊎◌, inl, inr}
 use Rattle.verb_codes.specs.declared.verbs.Command.{Command}
 use Rattle.codec_graph.specs.declared.raw.RawCodec.{RawCodec}
 use Rattle.route_setup.specs.Means.{Means}
-use Rattle.hda_world.specs.Events.{Event}
-use Rattle.hda_world.specs.Tellings.{Telling, world_of, Makes}
+use Rattle.hda_world.specs.Tellings.{Telling, world_of}
 use Rattle.command_engine.specs.Polling.{rings_polled}
-use Rattle.driver_progress.specs.declared.phase.Phase.{Phase}
-use Rattle.driver_progress.specs.declared.phase.Phase.TheVariants.{Ready, Playing}
-use Rattle.driver_progress.specs.Phases.{is_asking, is_early}
-use Rattle.driver_progress.specs.Requests.{requests_of}
+use Rattle.driver_progress.specs.Phases.{is_asking}
 use Rattle.driver_progress.specs.Tasks.{Task, DriverLine}
-use Rattle.driver_progress.specs.Seen.{Seen}
-use Rattle.driver_progress.specs.States.{State}
-use Rattle.driver_progress.specs.Next.{expected}
-use Rattle.driver_progress.specs.Progress.{trail_of, seen_in, Fits}
+use Rattle.driver_progress.specs.Progress.{trail_of}
 use Rattle.driver_progress.specs.Shutting.{shut_accesses}
 use Rattle.driver_progress.specs.Unread.{AreAccesses}
 use Rattle.driver_progress.proofs.Callers.{asking_goes_on}
@@ -24,11 +15,8 @@ use Rattle.driver_bring_up.specs.Commanding.{submit_made}
 use Rattle.driver_bring_up.specs.declared.bringing.BringUp.{BringUp}
 use Rattle.driver_bring_up.specs.Calls.{Leads, Ends}
 use Rattle.driver_bring_up.specs.Told.{LooksOn, IsStill}
-use Rattle.laws_bring_up.specs.Stretches.{IsOpen}
 use Rattle.laws_bring_up.specs.Standing.{IsTaskOfCodecs, IsBroughtUp}
-use Rattle.laws_bring_up.proofs.Callers.{AgendaLaws, SetterLaws, Laws, accesses_row, asking_in, unread_accesses, looked_accesses, submit_are, shut_are}
-use Rattle.laws_stream.specs.Resting.{LeavesRest}
-use Rattle.laws_stream.specs.Silent.{plays_in}
+use Rattle.laws_bring_up.proofs.Callers.{AgendaLaws, SetterLaws, Laws, asking_in, unread_accesses, looked_accesses, submit_are, shut_are}
 
 -- ---- accesses
 

@@ -122,7 +122,7 @@ module _ (jacks : List JackPin) where
 
 -- ---- what is found
 
-found_has : {X : Type 0} (P : X → Type 0) (test : X → Bool) (list : List X) (value : X) → All P list → find test list ≡ Some value → P value × (test value ≡ true)
+pub found_has : {X : Type 0} (P : X → Type 0) (test : X → Bool) (list : List X) (value : X) → All P list → find test list ≡ Some value → P value × (test value ≡ true)
 found_has P test [] value all is = cc
 found_has {X} P test (first ∷ list) value all is = by (test first) refl is (λ is. found_has P test list value (All-tail P first list all) is)
   where
@@ -130,13 +130,13 @@ found_has {X} P test (first ∷ list) value all is = by (test first) refl is (λ
     by true here is later = let same : first ≡ value = cc in subst (λ (value : X). P value × (test value ≡ true)) same (All-head P first list all, here)
     by false here is later = later is
 
-states_all : (P : SpeakerPin → Type 0) (states : List SpeakerState) → All P (map (λ (state : SpeakerState). state.speaker) states) → All (λ (state : SpeakerState). P state.speaker) states
+pub states_all : (P : SpeakerPin → Type 0) (states : List SpeakerState) → All P (map (λ (state : SpeakerState). state.speaker) states) → All (λ (state : SpeakerState). P state.speaker) states
 states_all P [] all = All-nil (λ (state : SpeakerState). P state.speaker)
 states_all P (state ∷ states) all =
     All-cons (λ (state : SpeakerState). P state.speaker) state states (All-head P state.speaker (map (λ (state : SpeakerState). state.speaker) states) all)
     (states_all P states (All-tail P state.speaker (map (λ (state : SpeakerState). state.speaker) states) all))
 
-both_of : (first second : Bool) → (first && second) ≡ true → (first ≡ true) × (second ≡ true)
+pub both_of : (first second : Bool) → (first && second) ≡ true → (first ≡ true) × (second ≡ true)
 both_of true second is = (refl, is)
 both_of false second is = absurd (false≢true is)
 

@@ -1,26 +1,30 @@
 -- A driver that is to switch brings its codecs up: its rules wait.
-use Rattle.std.proofs.Common.{◌≡◌, ◌⊎◌, inl, inr, ℕ, Bool, false, List, [], ◌∷◌, map, None, Some, refl, sym, ap, subst, ◌∙◌}
+use Rattle.std.proofs.Common.{◌≡◌, ◌⊎◌, inl, inr, Bool, false, List, [], ◌∷◌, map, None, Some, refl, sym, ap, subst, ◌∙◌}
 use Rattle.std.proofs.lemmas.Bool.{false≢true}
 use Rattle.verb_codes.specs.declared.verbs.Command.{Command}
 use Rattle.codec_graph.specs.declared.raw.RawCodec.{RawCodec}
 use Rattle.route_planner.specs.declared.routes.Plan.{Plan}
 use Rattle.route_setup.specs.Means.{Means}
 use Rattle.world_steps.specs.declared.Step.{Step}
-use Rattle.hda_world.specs.Worlds.{World, TakenCommand}
-use Rattle.hda_world.specs.Events.{Event, Stepped, Begin, End}
+use Rattle.std.specs.Prelude.{All}
+use Rattle.hda_world.specs.Worlds.{World}
+use Rattle.hda_world.specs.Events.{Event, Stepped, Begin, End, after}
 use Rattle.hda_world.specs.Tellings.{Telling, world_of, Went, Accessed}
 use Rattle.hda_world.proofs.Callers.{grew_both, grew_access, grew_row}
 use Rattle.period_writer.specs.Runs.{Tally, tally_opened}
 use Rattle.period_writer.specs.Outcomes.{HasNotWrapped}
+use Rattle.driver_progress.specs.declared.phase.Phase.{Phase}
+use Rattle.driver_progress.specs.declared.phase.Phase.TheVariants.{Reset}
 use Rattle.driver_progress.specs.Phases.{is_ready}
 use Rattle.driver_progress.specs.Tasks.{Task, DriverLine}
-use Rattle.driver_progress.specs.States.{state_opened}
+use Rattle.driver_progress.specs.States.{State, state_opened}
 use Rattle.driver_progress.specs.Progress.{trail_of}
 use Rattle.driver_bring_up.specs.declared.bringing.BringUp.{BringUp}
 use Rattle.driver_bring_up.specs.Calls as bringing
 use Rattle.driver_rules.specs.Onward.{onward_opened, onward_after}
 use Rattle.driver_rules.proofs.Callers.{waits_steps, progress_waits}
-use Rattle.laws_bring_up.specs.Standing.{IsBroughtUp}
+use Rattle.laws_settings.specs.Readings.{KeepsDefaults}
+use Rattle.laws_bring_up.specs.Standing.{IsBroughtUp, StandsIn, CanBegin}
 use Rattle.laws_bring_up.specs.Keeping as told
 use Rattle.laws_stream.specs.Resting.{Rests, AreApartFrom}
 use Rattle.laws_stream.specs.Lives.{Along}
@@ -42,12 +46,23 @@ module _ (means : Means) (verbs : RawCodec → List Command) (graphs : List RawC
   silent_of left parts telling (inl silent) = silent
   silent_of left parts telling (inr heard) = absurd (false≢true (sym laws.silent ∙ heard.sounds.task_is.plays))
 
+  -- codecs had their pins' defaults where it began
+  begins_with_defaults : (parts : Parts) (telling : Telling) → telling.journal ≡ [] → bringing.state_of parts.bring_up ≡ state_opened → IsBroughtUp means verbs graphs task 0 parts.bring_up (world_of telling) → All KeepsDefaults telling.start.codecs
+  begins_with_defaults parts telling none opened stands =
+      let phase : parts.bring_up.phase ≡ Reset = ap (λ (state : State). state.phase) opened in
+      let can : CanBegin parts.bring_up (world_of telling) = subst (λ (phase : Phase). StandsIn phase means verbs graphs task 0 parts.bring_up (world_of telling)) phase stands.stage in
+      subst (λ (journal : List Event). All KeepsDefaults (after journal telling.start).codecs) none can.defaults
+
+  still_defaults : (old new : Telling) → new.start ≡ old.start → All KeepsDefaults old.start.codecs → All KeepsDefaults new.start.codecs
+  still_defaults old new same all = subst (λ (world : World). All KeepsDefaults world.codecs) (sym same) all
+
   coming_begins : (parts : Parts) (telling : Telling) → telling.journal ≡ [] → telling.start.commands ≡ [] → bringing.state_of parts.bring_up ≡ state_opened → IsBroughtUp means verbs graphs task 0 parts.bring_up (world_of telling)
       → tally_in parts ≡ tally_opened → AreApartFrom (ring_in parts) parts.bring_up.engine.rirb.address → Rests parts.writer.geometry.fifo (world_of telling) → Coming lines parts telling
   coming_begins parts telling none none_taken opened stands fresh apart rests = record {
     under_way = laws.driver.begins lines parts telling none opened stands fresh (λ plays. absurd (false≢true (sym laws.silent ∙ plays))) apart rests;
     waits = ap (λ (journal : List Event). (onward_after (switch_rules task graphs plans) task journal telling.start (onward_opened lines)).later) none;
     none_taken = none_taken;
+    defaults = begins_with_defaults parts telling none opened stands;
   }
 
   -- no command was taken where it began, whatever is told later
@@ -59,6 +74,7 @@ module _ (means : Means) (verbs : RawCodec → List Command) (graphs : List RawC
     under_way = laws.driver.steps lines left parts steps old new went coming.under_way;
     waits = waits_steps (switch_rules task graphs plans) task lines steps old new went coming.waits;
     none_taken = still_none old new went.start coming.none_taken;
+    defaults = still_defaults old new went.start coming.defaults;
   }
 
   -- ---- a call
@@ -76,6 +92,7 @@ module _ (means : Means) (verbs : RawCodec → List Command) (graphs : List RawC
         waits = stretch_waits (switch_rules task graphs plans) task lines leads.made before begun made after begins leads.by.is are ends
             (unready (trail_of task lines before).state (bringing.state_of old.bring_up) (trail_of task lines before).left was.under_way.rest.state_is not) coming.waits;
         none_taken = still_none before after grew.went.start coming.none_taken;
+        defaults = still_defaults before after grew.went.start coming.defaults;
       }
 
   -- ---- the closing stretch

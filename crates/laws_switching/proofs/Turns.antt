@@ -125,3 +125,9 @@ module _ (laws : TurnLaws) (format : Format) (graphs : List RawCodec) (plans : L
     set_up = set_up;
     routes = all_on graphs plans (λ k d within. Contains-get_or graphs k d within) planned;
   }
+
+  -- and no command was taken since then
+  pub turned_fresh : world.carried ≡ [] → All (λ (one : TakenCommand). one.running ≡ false) world.commands → ArePlansBy (outputs format).IsPlanBy graphs plans
+      → (turned : HasTurned format graphs plans world) × (drop turned.from world.commands ≡ [])
+  unfolding turned
+  turned_fresh none before planned = (turned none before planned, drop-length world.commands)

@@ -1,6 +1,6 @@
 -- How a driver is led on that is to switch speakers, as it is told, while it brings its codecs up: its rules wait. This
 -- project's own.
-use Rattle.std.specs.Prelude.{◌≡◌, ℕ, false, List, [], ◌∷◌, map, None, Some}
+use Rattle.std.specs.Prelude.{◌≡◌, false, List, [], ◌∷◌, map, All, None, Some}
 use Rattle.verb_codes.specs.declared.verbs.Command.{Command}
 use Rattle.codec_graph.specs.declared.raw.RawCodec.{RawCodec}
 use Rattle.route_planner.specs.declared.routes.Plan.{Plan}
@@ -16,6 +16,7 @@ use Rattle.driver_progress.specs.States.{state_opened}
 use Rattle.driver_bring_up.specs.declared.bringing.BringUp.{BringUp}
 use Rattle.driver_bring_up.specs.Calls as bringing
 use Rattle.driver_rules.specs.Onward.{onward_of, later_of, IsOnward}
+use Rattle.laws_settings.specs.Readings.{KeepsDefaults}
 use Rattle.laws_bring_up.specs.Standing.{IsBroughtUp}
 use Rattle.laws_stream.specs.Resting.{Rests, AreApartFrom}
 use Rattle.laws_stream.specs.Lives.{Along}
@@ -23,13 +24,14 @@ use Rattle.laws_driver.specs.Sounding.{Parts, ring_in, tally_in}
 use Rattle.laws_driver.specs.Keeping.{DriverGoesOn, DriverHasGone, WasNeverHeard, Calls, Closes}
 use Rattle.jack_switch.specs.SwitchRules.{switch_rules}
 
--- a driver that plays nothing brings its codecs up, and its rules wait: no line has begun at `Ready`. Codecs had taken
--- no command where it began
+-- a driver that plays nothing brings its codecs up, and its rules wait: no line has begun at `Ready`. Where it began
+-- codecs had taken no command, and had their pins' defaults
 pub record IsComing (means : Means) (verbs : RawCodec → List Command) (graphs : List RawCodec) (plans : List Plan)
     (task : Task) (lines left : List DriverLine) (parts : Parts) (telling : Telling) : Type 0 where
   pub under_way : DriverGoesOn means verbs graphs task lines left parts telling
   pub waits : (onward_of (switch_rules task graphs plans) task lines telling).later ≡ None
   pub none_taken : telling.start.commands ≡ []
+  pub defaults : All KeepsDefaults telling.start.codecs
 
 -- it was closed before it played: the journal is progress and its rules wait, and the stream was never set going
 pub record HasNotSwitched (means : Means) (graphs : List RawCodec) (plans : List Plan) (task : Task)

@@ -35,20 +35,22 @@ pub record IsTaskToSwitch (format : Format) (verbs : RawCodec → List Command) 
   pub silent : task.plays ≡ false
   pub format_is : task.geometry.format ≡ format
 
-module _ (format : Format) (verbs : RawCodec → List Command) (graphs : List RawCodec) (plans : List Plan) (task : Task)
-  where
-    -- the stretch of the first line that begins at `Ready`: a driver that switches was made of the parts, and the line is
-    -- its first call
-    abbrev pub Turns : Type 0
-    Turns = (lines left : List DriverLine) (line : DriverLine) (parts : Parts) (old new : JackDriverState)
-        (supply supply' : List ℕ) (before begun made after : Telling)
-        → parts.bring_up.phase ≡ Ready → IsMadeOf parts plans old → IsJackDriver old
-        → IsTaskOfSwitching old supply task → Accessed before begun Begin
-        → Switches line.irq line.budget old new supply supply' (Some begun) (Some made) → KeepsJackDriver old new
-        → Accessed made after End → HasNotWrapped (world_of made)
-        → IsComing (outputs format) verbs graphs plans task lines (line ∷ left) parts before
-        → SwitchGoesOn format graphs plans task lines left supply' new after
+-- the stretch of the first line that begins at `Ready`: a driver that switches was made of the parts, and the line is
+-- its first call
+abbrev pub Turns : (format : Format) (verbs : RawCodec → List Command) (graphs : List RawCodec) (plans : List Plan)
+    (task : Task) → Type 0
+Turns format verbs graphs plans task =
+    (lines left : List DriverLine) (line : DriverLine) (parts : Parts) (old new : JackDriverState)
+    (supply supply' : List ℕ) (before begun made after : Telling)
+    → parts.bring_up.phase ≡ Ready → IsMadeOf parts plans old → IsJackDriver old
+    → IsTaskOfSwitching old supply task → Accessed before begun Begin
+    → Switches line.irq line.budget old new supply supply' (Some begun) (Some made) → KeepsJackDriver old new
+    → Accessed made after End → HasNotWrapped (world_of made)
+    → IsComing (outputs format) verbs graphs plans task lines (line ∷ left) parts before
+    → SwitchGoesOn format graphs plans task lines left supply' new after
 
+module _ (format : Format) (graphs : List RawCodec) (plans : List Plan) (task : Task)
+  where
     -- steps of the device
     abbrev pub GoesOnOverSteps : Type 0
     GoesOnOverSteps = (lines left : List DriverLine) (supply : List ℕ) (driver : JackDriverState) (steps : List Step)
@@ -74,3 +76,12 @@ module _ (format : Format) (verbs : RawCodec → List Command) (graphs : List Ra
         → Accessed made after End → Went before after last → Along HasNotWrapped last (world_of before)
         → SwitchGoesOn format graphs plans task lines [] supply old before
         → SwitchHasGone format graphs plans task lines old.sent ended last after
+
+-- ---- how it is led on
+
+pub record KeepsSwitching (format : Format) (verbs : RawCodec → List Command) (graphs : List RawCodec)
+    (plans : List Plan) (task : Task) : Type 0 where
+  pub turns : Turns format verbs graphs plans task
+  pub steps : GoesOnOverSteps format graphs plans task
+  pub calls : GoesOnOverCalls format graphs plans task
+  pub ends : Ends format graphs plans task

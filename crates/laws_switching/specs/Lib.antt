@@ -2,6 +2,7 @@ pub mod Speakers
 pub mod Coming
 pub mod SettingUp
 pub mod Senses
+pub mod Since
 pub mod Hearing
 pub mod Turned
 pub mod Switching

@@ -1,6 +1,6 @@
--- That the answers of jacks decide which speakers are on, read off a journal alone: the words that are written into CORB
--- and the entries that are read of RIRB. Commands and responses: High Definition Audio 1.0a, 4.4; pin sense: 7.3.3.15;
--- pin widget control: 7.3.3.13. The rule is this project's own.
+-- That the answers of jacks decide which speakers are on, read off a journal alone: the words that are written into
+-- CORB and the entries that are read of RIRB. Commands and responses: High Definition Audio 1.0a, 4.4; pin sense:
+-- 7.3.3.15; pin widget control: 7.3.3.13. The rule is this project's own.
 use Rattle.std.specs.Prelude.{◌≡◌, ℕ, ◌+◌, ◌==◌, ◌&&◌, not, nat_le, Bool, true, false, List, [], ◌∷◌, map}
 use Rattle.std.specs.Prelude.{Option, None, Some, if◌then◌else◌, find}
 use Rattle.std.specs.Option.{option_map}
@@ -24,8 +24,8 @@ use Rattle.jack_rules.specs.Switching.{SwitchingState, jack_opened, sensed, pres
 use Rattle.jack_rules.specs.Switching.{is_wanted, control_of}
 use Rattle.laws_switching.specs.Speakers.{is_pin_at}
 
--- what is known of jacks by a journal: what something was plugged into when each was asked last, and which jack the last
--- command asks whose answer was not read, if it asks one
+-- what is known of jacks by a journal: what something was plugged into when each was asked last, and which jack the
+-- last command asks whose answer was not read, if it asks one
 pub record Senses : Type 0 where
   pub jacks : List JackState
   pub asked : Option JackPin
@@ -133,9 +133,10 @@ module _ (corb rirb : ℕ) where
   AreDecided speakers (event ∷ events) senses =
       IsDecidedAt speakers senses event × AreDecided speakers events (senses_noted senses event)
 
-  -- each SetPin of a speaker that a journal writes into CORB carries what the sense answers before it decide
-  abbrev pub SensesDecide : List RawCodec → List Plan → (journal : List Event) → Type 0
-  SensesDecide graphs plans journal = AreDecided (speakers_of graphs plans) journal (senses_opened graphs plans)
+  -- each SetPin of a speaker that events from the turn on write into CORB carries what the sense answers among them
+  -- before it decide
+  abbrev pub SensesDecide : List RawCodec → List Plan → List Event → Type 0
+  SensesDecide graphs plans events = AreDecided (speakers_of graphs plans) events (senses_opened graphs plans)
 
   -- ---- events beside both rings
 

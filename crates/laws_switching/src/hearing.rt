@@ -1,5 +1,5 @@
-//! Laws of what is heard and how codecs are set up once speakers are switched, each the contract of a function that does
-//! nothing.
+//! Laws of what is heard and how codecs are set up once speakers are switched, each the contract of a function that
+//! does nothing.
 ghost use Rattle.std.specs.Prelude.{◌≡◌, ℕ, Bool, false, List, [], All};
 ghost use Rattle.codec_graph.specs.declared.raw.RawCodec.{RawCodec};
 ghost use Rattle.codec_graph.specs.Cycles.{IsWellFormed};
@@ -43,8 +43,8 @@ pub fn set_up_codecs_can_turn()
 }
 
 /// Where each pin hears the line by its signals, each pin to which a pair came at the turn heard the line where it was
-/// on by its marks, and nothing where it was off. A pin that is no speaker has no marks, and heard nothing where nothing
-/// came to it.
+/// on by its marks, and nothing where it was off. A pin that is no speaker has no marks, and heard nothing where
+/// nothing came to it.
 pub fn switched_pins_are_heard()
     ensures { (format : Format) (graphs : List RawCodec) (plans : List Plan) (pcm : List ℕ) (given_up : Bool)
         (tally : Tally) (world : World) (turned : HasTurned format graphs plans world) → All IsWellFormed graphs
@@ -58,8 +58,8 @@ pub fn switched_pins_are_heard()
     one_signal_is_played();
 }
 
-/// Codecs that were set up at the turn stay so, whatever speakers are switched: each route of their plans is open, or its
-/// pin silent where the last SetPin that the codec took has out enable clear.
+/// Codecs that were set up at the turn stay so, whatever speakers are switched: each route of their plans is open, or
+/// its pin silent where the last SetPin that the codec took has out enable clear.
 pub fn turned_codecs_are_set_up()
     ensures { (format : Format) (graphs : List RawCodec) (plans : List Plan) (world : World)
         → HasTurned format graphs plans world → All IsWellFormed graphs → AscendFrom 0 graphs

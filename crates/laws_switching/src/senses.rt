@@ -18,8 +18,8 @@ ghost use Rattle.jack_rules.specs.Switching.{SwitchingState, told_all, next_choi
 ghost use Rattle.laws_switching.specs.Senses.{Senses, KnowsJacks, senses_after, AreDecided, IsBesideSenses};
 
 /// What the switch rules keep of jacks is what the journal says of them: events beside both rings change neither, and a
-/// poll tells both the same, where the jack that the rules ask is of the codec that the outstanding command asks. Neither
-/// writes a command.
+/// poll tells both the same, where the jack that the rules ask is of the codec that the outstanding command asks.
+/// Neither writes a command.
 pub fn sense_answers_are_known()
     ensures beside { (corb rirb : ℕ) (speakers : List SpeakerPin) (senses : Senses) (events : List Event)
         → All (IsBesideSenses corb rirb) events
@@ -33,9 +33,9 @@ pub fn sense_answers_are_known()
         × AreDecided corb rirb speakers (poll_accesses rirb rings reads) senses }
 {}
 
-/// A command that the switch rules choose and submit is what the journal decides: a SetPin of a speaker carries what the
-/// sense answers before it decide, and a jack is asked for the journal as for the rules. So it is where codecs stand by
-/// address and the rules have the speakers of their plans.
+/// A command that the switch rules choose and submit is what the journal decides: a SetPin of a speaker carries what
+/// the sense answers before it decide, and a jack is asked for the journal as for the rules. So it is where codecs
+/// stand by address and the rules have the speakers of their plans.
 pub fn choices_are_decided()
     ensures { (corb rirb : ℕ) (graphs : List RawCodec) (plans : List Plan) (senses : Senses)
         (switching : SwitchingState) (rings : RingPlaces) (command : Command) (word : ℕ) → AscendFrom 0 graphs
